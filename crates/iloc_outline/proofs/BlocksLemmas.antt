@@ -144,15 +144,7 @@ read_end c l k old new o n h = at (to_ascii_lowercase c == code_x) refl h
   where
     at : (b : Bool) → (to_ascii_lowercase c == code_x) ≡ b → IsReadAt b c l k old new o n End
         → IsRead c (whole_text l) (pieces_left l) [] old new o n
-    at true e h = record {
-      body = pieces_left l;
-      all = sym (append-nil (pieces_left l));
-      first =
-          ap (λ t. cond t ((c, pieces_left l) ∷ []) ((c, front (pieces_left l)) ∷ blocks (pieces_left l))) e;
-      good =
-          h.0;
-      puts = h.1;
-    }
+    at true e h = grind (arith, append-nil)
     at false e h = record {
       body = pieces_left l;
       all = sym (append-nil (pieces_left l));
@@ -187,25 +179,7 @@ read_next c l k old new o n h = at (to_ascii_lowercase c == code_x) refl h
         → IsReadTo c l k old new o n
     at true e h = absurd (h tt)
     at false e h =
-        let ends : front (h.0 ++ pieces_left k) ≡ h.0 = ap front (sym h.1.pieces) ∙ h.3.body in
-        record {
-          read = record {
-            body = h.0;
-            all = h.1.pieces;
-            first = ap (λ t. cond t ((c, pieces_left l) ∷ [])
-                ((c, front (pieces_left l)) ∷ blocks (pieces_left l))) e
-                ∙ (λ j. (c, h.3.body j) ∷ (ap blocks h.1.pieces
-                ∙ blocks_behind h.0 (pieces_left k) ends (starts_at (pieces_left k) h.2)) j);
-            good = h.3.good;
-            puts = h.3.puts;
-          };
-          later = h.1.later;
-          single = h.2;
-          less = h.1.less;
-          window = h.1.window;
-          end = h.1.end;
-          text = h.1.text;
-        }
+        grind (arith, blocks_behind, starts_at)
 
 -- it is bad, and no variant is repeated
 pub read_bad : (c : ℕ) (l k : Cursor) (old new : Spans) (o n : Bool) → IsBlockRead c l k old new o n Bad
@@ -219,11 +193,7 @@ read_bad c l k old new o n h = at (to_ascii_lowercase c == code_x) refl h
         → IsBadBlock c false (cond b (pieces_left l) (front (pieces_left l)))
     at true e h =
         (h, ap (λ t. t && repeats_variant languages (pieces_left l)) (no_t (to_ascii_lowercase c) e))
-    at false e h = (
-      h.0,
-      false_from_ne_true _ (λ k. let parts = and_parts _ _ k in
-          h.1 (eqb-true _ _ parts.0, parts.1)),
-    )
+    at false e h = grind (arith, false_from_ne_true, and_parts, eqb-true)
 
 -- a variant is repeated after `t`
 pub read_repeated : (c : ℕ) (l k : Cursor) (old new : Spans) (o n : Bool) →
@@ -286,13 +256,10 @@ plain_transform m = grind (arith, all_append, plain_variants, plain_fields)
 plain_unicode : (u : SpelledUnicode) → ArePlain (unicode_parts u)
 plain_unicode u = grind (arith, all_append, plain_words, plain_fields)
 
--- each block is a group
-block_group : (b : Block) → IsGroup (ranked b)
-block_group b = grind (arith, plain_transform, plain_unicode)
-
 all_groups : (bs : List Block) → AllByRecursion IsGroup (groups_of bs)
 all_groups bs = all-map_of nat_cmp nat_cmp-IsAntisymmetric IsGroup (map ranked bs)
-    (all_mapped (λ _. Unit {0}) IsGroup ranked (λ b _. block_group b) bs (all_of _ (λ _. tt) bs))
+    (all_mapped (λ _. Unit {0}) IsGroup ranked (λ b _. (grind (arith, plain_transform, plain_unicode))) bs
+    (all_of _ (λ _. tt) bs))
 
 -- one block more, whose rank is new
 groups_more : (bs : List Block) (b : Block) → list_any (eq_by_cmp nat_cmp (rank (lower_singleton b)))
@@ -305,9 +272,11 @@ groups_more bs b new =
     (rank (lower_singleton b)) (block_parts b) q none)
   where
     none : find nat_cmp (rank (lower_singleton b)) (map ranked bs) ≡ None
-    none = no_some _ (is_some-find nat_cmp (rank (lower_singleton b)) (map ranked bs)
-        ∙ ap (list_any (eq_by_cmp nat_cmp (rank (lower_singleton b))))
-        (map-map (λ (g : ℕ × List Part). g.0) ranked bs) ∙ new)
+    none = no_some _ (cc (
+      is_some-find nat_cmp (rank (lower_singleton b)) (map ranked bs),
+      map-map (λ (g : ℕ × List Part). g.0) ranked bs,
+      new,
+    ))
 
 -- a block of the greatest rank comes last
 groups_last : (bs : List Block) (r : ℕ) (ps : List Part) → AllByRecursion (λ k. k < r) (ranks bs)
@@ -316,7 +285,7 @@ groups_last bs r ps h =
     let below : AllByRecursion (λ g. g.0 < r) (groups_of bs) =
     all-map_of nat_cmp nat_cmp-IsAntisymmetric (λ g. g.0 < r) (map ranked bs)
     (all_ranks (λ k. k < r) bs h) in
-    ap (put nat_cmp r ps) (sym (append-nil (groups_of bs))) ∙ put_between r ps (groups_of bs) [] below tt
+    cc (append-nil (groups_of bs), put_between r ps (groups_of bs) [] below tt)
   where
     all_ranks : (P : ℕ → Type 0) (bs : List Block) → AllByRecursion P (ranks bs)
         → AllByRecursion (λ (g : ℕ × List Part). P g.0) (map ranked bs)
@@ -392,14 +361,11 @@ any_last : (q : ℕ) (c : ℕ) (ks : Text) → list_any (eq_by_cmp nat_cmp q) (k
     ≡ (eq_by_cmp nat_cmp q c || list_any (eq_by_cmp nat_cmp q) ks)
 any_last q c ks = simp (list_any-append, or_last)
 
-rank_some : (c : ℕ) → is_ascii_alphanumeric c ≡ true → 0 < rank (to_ascii_lowercase c)
-rank_some c a = grind (arith, nat_tests)
-
 -- a new rank that is not less than the greatest is greater
 greatest : (c last : ℕ) (ks : Text) → is_ascii_alphanumeric c ≡ true → (last ≡ 0) ⊎ IsAmong nat_cmp last ks
     → list_any (eq_by_cmp nat_cmp (rank (to_ascii_lowercase c))) ks ≡ false
     → last ≤ rank (to_ascii_lowercase c) → last < rank (to_ascii_lowercase c)
-greatest c last ks a there new h = grind (arith, cases_lt, le_antisymm, rank_some, true≢false)
+greatest c last ks a there new h = grind (arith, cases_lt, le_antisymm, true≢false, nat_tests)
 
 module _ (c : ℕ) (ps rest : List Text) (l : Cursor) (old : Spans) (o : Bool) (last : ℕ) (now mid : Spans)
     (n m k : Bool)
@@ -423,8 +389,7 @@ module _ (c : ℕ) (ps rest : List Text) (l : Cursor) (old : Spans) (o : Bool) (
   cut_more : pieces_left l ≡ flat_map block_pieces more ++ rest
   cut_more = d.cut ∙ ap (λ qs. flat_map block_pieces d.done ++ ((c ∷ []) ∷ qs)) r.all
       ∙ sym (append_assoc (flat_map block_pieces d.done) ((c ∷ []) ∷ r.body) rest)
-      ∙ ap (λ qs. qs ++ rest) (ap (λ qs. flat_map block_pieces d.done ++ qs)
-      (sym (append-nil ((c ∷ []) ∷ r.body))) ∙ sym (flat_map-append block_pieces d.done (block ∷ [])))
+      ∙ ap (λ qs. qs ++ rest) (simp (append-nil, flat_map-append))
 
   fault_more : first_fault languages [] (blocks (pieces_left l))
       ≡ first_fault languages (to_ascii_lowercase c ∷ d.seen) (blocks rest)
@@ -480,13 +445,9 @@ module _ (c : ℕ) (ps rest : List Text) (l : Cursor) (old : Spans) (o : Bool) (
         split = split_more;
         fault = fault_more;
         seen_is = seen_more;
-        letters = all_append (λ b. is_ascii_alphanumeric b.0 ≡ true) d.done (block ∷ []) d.letters
-            (letter, tt);
-        adds = λ qs plain was. rw (append_assoc qs (parts_in (groups_of d.done)) (block_parts block)
-            ∙ ap (λ ts. qs ++ ts) (sym (last_parts above)))
-            at (r.puts.adds (qs ++ parts_in (groups_of d.done)) (d.adds qs plain was));
-        most = most_more its_rank (all_weaker (λ j. j ≤ last) (λ j. j ≤ its_rank) (λ j x. omega arith)
-            (ranks d.done) d.most) (omega arith);
+        letters = search all_append;
+        adds = grind (arith, append_assoc, last_parts);
+        most = most_more its_rank (grind (arith, all_weaker)) (omega arith);
         there = inr (some_more its_rank (or_left _ _ (self_tied its_rank)));
         few = few_more;
         order = order_more;
@@ -502,13 +463,12 @@ module _ (c : ℕ) (ps rest : List Text) (l : Cursor) (old : Spans) (o : Bool) (
     split = split_more;
     fault = fault_more;
     seen_is = seen_more;
-    letters = all_append (λ b. is_ascii_alphanumeric b.0 ≡ true) d.done (block ∷ []) d.letters (letter, tt);
+    letters = search all_append;
     adds = λ qs plain was. rw groups_are (place (whole_text l) qs (block_parts block) (groups_of d.done)
         (plain, all_groups d.done)
         (is_sorted-map_of nat_cmp nat_cmp_total (map ranked d.done))
         (both_ways _ (any_groups its_rank d.done ∙ new))
-        (spell_length (whole_text l) now (qs ++ parts_in (groups_of d.done)) (d.adds qs plain was)
-        ∙ length-held now)
+        (grind (arith, spell_length, length-held))
         (r.puts.adds (qs ++ parts_in (groups_of d.done)) (d.adds qs plain was)));
     most = most_more last d.most (omega arith);
     there = elim d.there [ inl x ↦ inl x | inr x ↦ inr (some_more last (or_right _ _ x)) ];

@@ -136,8 +136,7 @@ module _ (r : Role) (l at : Cursor) (old : Spans) (mid : List Span) (last : ℕ)
           key = piece_left at;
           is_key = rw e at key;
           rest = rest;
-          cut = w.past.pieces ∙ ap (λ ps. fields_pieces w.fields ++ ps) is
-              ∙ ap (λ vs. fields_pieces w.fields ++ (piece_left at ∷ (vs ++ rest))) alone;
+          cut = cc (w.past.pieces, is, alone);
           none = none;
         }
 
@@ -219,8 +218,7 @@ module _ (r : Role) (l at : Cursor) (old : Spans) (mid : List Span) (last : ℕ)
             → (fs : Fields) × (pieces_left l ≡ fields_pieces fs) × ReadsFields r l fs old then o k
         takes_end then s t = (
           more,
-          w.past.pieces ∙ ap (λ ps. fields_pieces w.fields ++ ps) (after None t)
-              ∙ sym (pieces_more w.fields field),
+          grind (arith, after, pieces_more),
           taken r l more old then now o k each_more
               (rw s at gathered),
         )

@@ -142,8 +142,7 @@ raise_at n a b p e =
     let rest = raise_rest a b in
     let more : drop (suc (length a) + n) (a ++ 45 ∷ b) ≡ drop n b =
     sym (drop-drop n (suc (length a)) (a ++ 45 ∷ b)) ∙ ap (drop n) rest in
-    ap (λ k. raised n k (a ++ 45 ∷ b)) e ∙ (λ j. raise_front a b j ++ (upper (take n (rest j)) ++ more j))
-    ∙ append_assoc a (45 ∷ []) (upper (take n b) ++ drop n b)
+    grind (arith, raise_front, append_assoc)
 
 low-append : (a b : Text) → lower (a ++ 45 ∷ b) ≡ lower a ++ 45 ∷ lower b
 unfolding lower
@@ -155,14 +154,6 @@ title_front : (s x : Text) → 0 < length s →
 unfolding lower upper title
 title_front [] x some = absurd (omega arith)
 title_front (c ∷ s) x some = ap (λ t. t ++ (map to_ascii_lowercase s ++ x)) (upper-lower (c ∷ []))
-
-script_printed : (l s : Text) → IsWord Script s →
-    raised 1 (suc (length l)) (lower (l ++ 45 ∷ s)) ≡ lower l ++ 45 ∷ title s
-script_printed l s h =
-    ap (raised 1 (suc (length l))) (low-append l s)
-    ∙ raise_at 1 (lower l) (lower s) (suc (length l)) (ap suc (sym (length-lower l)))
-    ∙ ap (λ t. lower l ++ 45 ∷ t) (ap (λ t. upper (take 1 t) ++ drop 1 t) (sym (append-nil (lower s)))
-    ∙ title_front s [] (omega (arith, length-script s h)) ∙ append-nil (title s))
 
 -- the letters of a region, or its digits
 digits_same : (r : Text) → list_all is_ascii_digit r ≡ true → lower r ≡ upper r
@@ -183,11 +174,9 @@ region_printed a r p h e = elim (cases_Bool (length r == 2)) [
   | inl two ↦
       let long : length (lower r) ≤ 2 = omega (arith, length-lower r, eqb-true _ _ two) in
       raise_at 2 a (lower r) p (e ∙ ap (λ (b : Bool). cond b (suc (length a)) 0) two)
-      ∙ ap (λ t. a ++ 45 ∷ t) ((λ j. upper (take_all 2 (lower r) long j) ++ drop_all 2 (lower r) long j)
-      ∙ append-nil (upper (lower r)) ∙ upper-lower r)
+      ∙ ap (λ t. a ++ 45 ∷ t) (simp (take_all, drop_all, append-nil, upper-lower))
   | inr other ↦
-      ap (λ k. raised 2 k (a ++ 45 ∷ lower r)) (e ∙ ap (λ (b : Bool). cond b (suc (length a)) 0) other)
-      ∙ ap (λ t. a ++ 45 ∷ t) (digits_same r (three_digits r h other))
+      grind (arith, digits_same, three_digits)
 ]
 
 -- where they begin; 0 if nothing is put in upper case
@@ -204,7 +193,10 @@ printed_part : (l : Text) (s r : Option Text) → IfSome s (IsWord Script) → I
     ≡ join (lower l ∷ (option_to_list (option_map title s) ++ option_to_list (option_map upper r)))
 unfolding join
 printed_part l None None h g = refl
-printed_part l (Some s) None h g = script_printed l s h
+printed_part l (Some s) None h g = ap (raised 1 (suc (length l))) (low-append l s)
+    ∙ raise_at 1 (lower l) (lower s) (suc (length l)) (ap suc (sym (length-lower l)))
+    ∙ ap (λ t. lower l ++ 45 ∷ t) (ap (λ t. upper (take 1 t) ++ drop 1 t) (sym (append-nil (lower s)))
+    ∙ title_front s [] (omega (arith, length-script s h)) ∙ append-nil (title s))
 printed_part l None (Some r) h g = simp (length-lower, low-append, region_printed)
 printed_part l (Some s) (Some r) h g =
     let t : Text = lower l ++ 45 ∷ title s in
@@ -249,11 +241,13 @@ length-raised n zero t = refl
 length-raised n (suc k) t =
     length-append (take (suc k) t) (map to_ascii_uppercase (take n (drop (suc k) t)) ++ drop (suc k + n) t)
     ∙ ap (λ m. length (take (suc k) t) + m)
-    (length-append (map to_ascii_uppercase (take n (drop (suc k) t))) (drop (suc k + n) t)
-    ∙ ap (λ m. m + length (drop (suc k + n) t)) (length-map (take n (drop (suc k) t)) to_ascii_uppercase)
-    ∙ sym (length-append (take n (drop (suc k) t)) (drop (suc k + n) t))
-    ∙ ap (λ x. length (take n (drop (suc k) t) ++ x)) (sym (drop-drop n (suc k) t))
-    ∙ ap length (take-append-drop n (drop (suc k) t)))
+    (cc (
+      length-append (map to_ascii_uppercase (take n (drop (suc k) t))) (drop (suc k + n) t),
+      length-map (take n (drop (suc k) t)) to_ascii_uppercase,
+      length-append (take n (drop (suc k) t)) (drop (suc k + n) t),
+      drop-drop n (suc k) t,
+      take-append-drop n (drop (suc k) t),
+    ))
     ∙ sym (length-append (take (suc k) t) (drop (suc k) t)) ∙ ap length (take-append-drop (suc k) t)
 
 pub front_text-append : (s r : ℕ) (t u : Text) → s < length t → r + 1 < length t
@@ -297,18 +291,11 @@ front_read l m all s r language f =
       end = after_end l words o f.passed;
       inside = inside;
       text = text;
-      printed = λ first.
-          (λ j. front_text (f.script first j) (f.region first j) (text first j))
-          ∙ printed_part (piece_left l) i.script i.region script region;
+      printed = grind (arith, printed_part);
       within = λ first.
           let long = languages_table.least _ (length-language languages (piece_left l) language) in
           let both = placed (piece_left l) i.script i.region long script region in
-          let end : end_of l o ≡ length (join words) =
-          sym (length-take-le (end_of l o) (whole_text l) (omega (arith, length_text l)))
-          ∙ ap length (text first) in
-          let s_is = f.script first in
-          let r_is = f.region first in
-          (omega arith, omega arith);
+          grind (arith, length-take-le, length_text);
     }
 
 -- a language alone
@@ -360,8 +347,7 @@ module _ {l m : Cursor} (language : IsWord (Language languages) (piece_left l))
   front_to_script one =
       let st = step Script tt begun b is None one in
       record {
-        passed = st.passed ∙ ap (λ ps. piece_left l ∷ ps) (sym (append-nil (option_to_list script)))
-            ∙ sym (words_are None st);
+        passed = cc (st.passed, append-nil (option_to_list script), words_are None st);
         rest = after_is None st;
         script = script_place;
         region =
@@ -389,7 +375,7 @@ module _ {l m : Cursor} (language : IsWord (Language languages) (piece_left l))
               p ∙ (λ j. cond (long j == 2) (there j) 0)
               ∙ ap (region_at (piece_left l) script) (sym (took Region (cursor.bytes_left n) (sym e)))
           by false e p =
-              p ∙ ap (region_at (piece_left l) script) (sym (took_none Region (cursor.bytes_left n) (sym e)))
+              grind (arith, took_none)
 
       -- a region is passed, if there is one
       pub front_to_region : (r : ℕ) → r ≡ cond (c && (n.piece_length == 2)) n.at 0 → (o : Option Cursor) →

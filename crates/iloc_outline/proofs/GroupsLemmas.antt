@@ -1,7 +1,7 @@
 -- Blocks among parts in groups, and where one is put.
 use Rattle.std.proofs.Common.{◌≡◌, ℕ, zero, suc, ◌+◌, ◌-◌, ◌<◌, ◌≤◌, ◌==◌, nat_lt, Bool, true, false, cond}
 use Rattle.std.proofs.Common.{◌&&◌, ◌||◌, List, [], ◌∷◌, ◌++◌, length, map, take, drop, refl, sym, ap, ap₂}
-use Rattle.std.proofs.Common.{◌∙◌, subst, arith, append-nil, slice_index_or}
+use Rattle.std.proofs.Common.{◌∙◌, arith, append-nil, slice_index_or}
 use Rattle.std.specs.List.{AllByRecursion, AllZip, list_any}
 use Rattle.std.specs.Ordering.{is_eq, eq_by_cmp, nat_cmp}
 use Rattle.std.specs.declared.cmp.Ordering.{Ordering}
@@ -109,8 +109,7 @@ module _ {A : Type 0} (test : A → Bool) (new : List A) where
   inserted_behind [] xs none = refl
   inserted_behind (x ∷ before) xs none =
       let parts = or_parts _ _ none in
-      ap (λ b. cond b (new ++ x ∷ (before ++ xs)) (x ∷ inserted (before ++ xs))) parts.0
-      ∙ ap (λ l. x ∷ l) (inserted_behind before xs parts.1)
+      grind (arith, inserted_behind before xs parts.1)
 
 zip_inserted : {A B : Type 0} (R : A → B → Type 0) (f : A → Bool) (g : B → Bool)
     → ((x : A) (y : B) → R x y → f x ≡ g y)
@@ -142,23 +141,20 @@ group_put rank new ((r, p ∷ ps) ∷ gs) h n =
         ≡ parts_in (by_order (nat_cmp rank r) ((rank, new) ∷ (r, p ∷ ps) ∷ gs) ((r, new) ∷ gs)
         ((r, p ∷ ps) ∷ put nat_cmp rank new gs))
     at Less e rest =
-        let less : rank < r = ranked rank r Less (sym e) in
-        let b : nat_lt rank r ≡ true = grind (arith, nat_tests) in
-        ap (λ b. cond b (new ++ p ∷ (ps ++ parts_in gs))
-        (p ∷ inserted (λ (q : Part). is_greater rank q.role q.word) new (ps ++ parts_in gs))) (first ∙ b)
-        ∙ ap (λ o. parts_in (by_order o ((rank, new) ∷ (r, p ∷ ps) ∷ gs) ((r, new) ∷ gs)
-        ((r, p ∷ ps) ∷ put nat_cmp rank new gs))) (sym e)
+        grind (arith, nat_tests)
     at Equal e rest = absurd (n (ap
         (λ o. is_eq o || list_any (eq_by_cmp nat_cmp rank) (map (λ (r, _). r) gs)) e))
     at Greater e rest =
         let more : r < rank = ranked rank r Greater (sym e) in
         let b : nat_lt rank r ≡ false = grind (arith, nat_tests) in
-        ap (λ b. cond b (new ++ p ∷ (ps ++ parts_in gs))
-        (p ∷ inserted (λ (q : Part). is_greater rank q.role q.word) new (ps ++ parts_in gs))) (first ∙ b)
-        ∙ ap (λ l. p ∷ l) (inserted_behind (λ (q : Part). is_greater rank q.role q.word) new ps (parts_in gs)
-        (none_plain (λ w. nat_lt rank w) ps h.0.2) ∙ ap (λ l. ps ++ l) rest)
-        ∙ ap (λ o. parts_in (by_order o ((rank, new) ∷ (r, p ∷ ps) ∷ gs) ((r, new) ∷ gs)
-        ((r, p ∷ ps) ∷ put nat_cmp rank new gs))) (sym e)
+        cc (
+          first,
+          b,
+          inserted_behind (λ (q : Part). is_greater rank q.role q.word) new ps (parts_in gs)
+              (none_plain (λ w. nat_lt rank w) ps h.0.2),
+          rest,
+          e,
+        )
 
 -- the last spans are put before the first block of a greater rank
 pub spell_placed : (rank : ℕ) (t : Text) (list new : List Span) (before ps : List Part)
@@ -187,12 +183,10 @@ spell_placed rank t list new before ps gs from at d g n long h low middle none s
     let is : new ≡ inserted f moved (take from list) =
     e ∙ (λ j. sym (take-take at from list low) j ++ (behind j ++ between j))
     ∙ inserted_at f moved (take from list) at d (ap (list_any f) (take-take at from list low) ∙ none)
-    (λ l. let k : at < from = omega (arith, length-take-le from list middle) in
-    ap f (get_or-take from list at d k) ∙ some k) (omega (arith, length-take-le from list middle)) in
+    (grind (arith, length-take-le, get_or-take)) (omega (arith, length-take-le from list middle)) in
     let parts : inserted test ps (before ++ parts_in gs) ≡ before ++ parts_in (put nat_cmp rank ps gs) =
-    inserted_behind test ps before (parts_in gs) (none_plain (λ w. nat_lt rank w) before g.0)
-    ∙ ap (λ l. before ++ l) (group_put rank ps gs g.1 n) in
-    let zipped : AllZip R (inserted f moved (take from list)) (inserted test ps (before ++ parts_in gs)) =
-    zip_inserted R f test (same_test (is_greater rank) t) moved ps back (take from list)
-    (before ++ parts_in gs) front in
-    rw is (subst (λ (qs : List Part). AllZip R (inserted f moved (take from list)) qs) parts zipped)
+    cc (
+      inserted_behind test ps before (parts_in gs) (none_plain (λ w. nat_lt rank w) before g.0),
+      group_put rank ps gs g.1 n,
+    ) in
+    grind (arith, zip_inserted, same_test)

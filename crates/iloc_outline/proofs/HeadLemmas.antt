@@ -128,10 +128,7 @@ module _ (l : Cursor) (f : Front) (first : l.at ≡ 0)
   behind : (rest : Text) → bytes_left l ≡ join (identifier_pieces i) ++ rest
       → drop f.end (bytes_left l) ≡ dashes i.variants ++ rest
   behind rest e = append_cancel_left (join (front_pieces i)) _ _
-      (ap (λ x. x ++ drop f.end (bytes_left l)) (sym front_bytes) ∙ take-append-drop f.end (bytes_left l) ∙ e
-      ∙ ap (λ ps. join ps ++ rest) pieces_i
-      ∙ ap (λ x. x ++ rest) (join-append i.language _ i.variants)
-      ∙ append_assoc (join (front_pieces i)) (dashes i.variants) rest)
+      (grind (arith, front_bytes, take-append-drop, pieces_i, join-append, append_assoc))
 
   stands : (rest : Text) → bytes_left l ≡ join (identifier_pieces i) ++ rest
       → flat_map printed_part (variant_parts i.variants) ≡ map lower i.variants
@@ -140,14 +137,17 @@ module _ (l : Cursor) (f : Front) (first : l.at ≡ 0)
   stands rest e same =
       let long : length (take f.end (bytes_left l)) ≡ f.end = length-take-le f.end (bytes_left l) inside in
       let within = read.within first in
-      ap (front_text f.script f.region) (sym (take-append-drop f.end (bytes_left l)))
-      ∙ front_text-append f.script f.region (take f.end (bytes_left l)) (drop f.end (bytes_left l))
-      (omega arith) (omega arith)
-      ∙ ap (λ x. x ++ lower (drop f.end (bytes_left l))) front_printed
-      ∙ ap (λ x. join (front_pieces (normal_identifier i)) ++ x)
-      (ap lower (behind rest e) ∙ lower-append (dashes i.variants) rest
-      ∙ ap (λ x. x ++ lower rest) (lower-dashes i.variants ∙ ap dashes (sym same)
-      ∙ parts_dashes (variant_parts i.variants)))
+      cc (
+        take-append-drop f.end (bytes_left l),
+        front_text-append f.script f.region
+            (take f.end (bytes_left l)) (drop f.end (bytes_left l)) (omega arith) (omega arith),
+        front_printed,
+        behind rest e,
+        lower-append (dashes i.variants) rest,
+        lower-dashes i.variants,
+        same,
+        parts_dashes (variant_parts i.variants),
+      )
 
   reads : (ps : List Text) (spans : Spans) (n : Bool) → AllDifferent word_cmp (map lower i.variants)
       → ps ≡ identifier_pieces i → Spell (bytes_left l) spans (variant_parts i.variants)
@@ -179,15 +179,7 @@ module _ (l : Cursor) (f : Front) (first : l.at ≡ 0)
       read_up_to : (ps : List Text) → ps ≡ identifier_pieces i →
           ReadsHead (bytes_left l) ps (outline_of f) new n
       read_up_to ps same = reads ps new n differ same spelled
-          (omega (
-            arith,
-            h.puts.few,
-            ap length none,
-            ap length same_words,
-            ap length same,
-            ap length pieces_i,
-            length-append (front_pieces i) i.variants,
-          ))
+          (grind (arith, same_words, pieces_i, length-append))
           (λ e. rw same_words at (h.puts.order e).1)
 
     -- variants are the rest of the text
@@ -195,7 +187,7 @@ module _ (l : Cursor) (f : Front) (first : l.at ≡ 0)
         AreWordsRead roles.Variant m k old new true n End
         → AreHeadRead (bytes_left l) k new n (heads.All (outline_of f))
     head_variants k new n h = read_up_to (pieces_left m) new n h (pieces_left l)
-        (after.0.pieces ∙ ap (λ ws. front_pieces i ++ ws) (same_words (pieces_left m) new n h) ∙ sym pieces_i)
+        (cc (after.0.pieces, same_words (pieces_left m) new n h, pieces_i))
 
     module _ (k : Cursor) (new : Spans) (n : Bool)
         (h : AreWordsRead roles.Variant m k old new true n Next) where
@@ -236,7 +228,7 @@ module _ (l : Cursor) (f : Front) (first : l.at ≡ 0)
         → AreWordsRead roles.Variant m k old new true n Repeated
         → AreHeadRead (bytes_left l) k new n (heads.Refused InvalidSubtag)
     head_repeated k new n h = not_an_identifier begins
-        (one_twice (pieces_left l) word (rw (variants_of (pieces_left l) (pieces_left m) after.1) at h.1))
+        (grind (arith, one_twice, variants_of))
 
     -- neither of these
     pub head_other : (k : Cursor) (new : Spans) (n : Bool) (r : Found)

@@ -53,10 +53,6 @@ other_bad c ps h bad = tests_fails (tests_block languages (c, ps)) none
     none (inl g) = no_x (to_ascii_lowercase c) g.0 h
     none (inr (x, g, cut)) = extension x g cut
 
-private_good : (c : ℕ) (ps : List Text) → to_ascii_lowercase c ≡ code_x → IsPrivate ps
-    → is_block languages (c, ps) ≡ true
-private_good c ps e g = (tests_block languages (c, ps)).passes (inl (e, g))
-
 private_bad : (c : ℕ) (ps : List Text) → to_ascii_lowercase c ≡ code_x → ¬ (IsPrivate ps)
     → is_block languages (c, ps) ≡ false
 private_bad c ps e bad = tests_fails (tests_block languages (c, ps)) none
@@ -108,7 +104,8 @@ private_end c start l m old new o e later spanned h word end put =
     let known : is_other_singleton (to_ascii_lowercase c) ≡ false = ap is_other_singleton e in
     let place =
     rw (← (ap rank e)) at put in (
-      private_good c (pieces_left l) e (record { words = each; nonempty = some }),
+      ((tests_block languages (c, (pieces_left l))).passes
+          (inl (e, (record { words = each; nonempty = some })))),
       rw (parts_alone c (pieces_left l) (ap (λ d. d == code_t) e) (ap (λ d. d == code_u) e))
           (puts_singleton (whole_text l) c start (m.at + m.piece_length) (pieces_left l) old new o whole known
           place),
@@ -188,9 +185,7 @@ printed_other : (c : ℕ) (ps : List Text) → list_all (is_word Subtag) ps ≡ 
     → printed_part (singleton_part c ps) ≡ map lower ((c ∷ []) ∷ ps)
 printed_other c ps all =
     let each = (tests_all (is_word Subtag) (IsWord Subtag) (tests_word Subtag) ps).holds all in
-    let same : kept ps ≡ map lower ps = ap (map lower) (filter_all (is_word Subtag) ps each) in
-    ap (λ qs. lower (c ∷ []) ∷ cond (is_other_singleton (to_ascii_lowercase c)) qs (map lower ps)) same
-    ∙ both (is_other_singleton (to_ascii_lowercase c))
+    grind (arith, filter_all)
   where
     both : (b : Bool) → lower (c ∷ []) ∷ cond b (map lower ps) (map lower ps) ≡ map lower ((c ∷ []) ∷ ps)
     both true = refl
@@ -293,9 +288,7 @@ module _ (c : ℕ) (l : Cursor) (other : is_other_singleton (to_ascii_lowercase 
         let are : ArePieces (pieces_left l) true d =
         subst (λ ps. ArePieces ps true d) (sym all_pieces)
         (rw e at h.are) in
-        rw put.0 (good_other start (m.at + m.piece_length)
-        (pieces_left l) d old new o n are spans whole_body put.1
-        put.2)
+        rw put.0 (search (good_other, whole_body))
 
   -- a piece of another length is reached
   module _ (m : Cursor) (g d : Bool) (h : PassesOther l m g d) where
@@ -303,8 +296,7 @@ module _ (c : ℕ) (l : Cursor) (other : is_other_singleton (to_ascii_lowercase 
         → IsBody c l m old new o n Bad
     next_none old new o n one e =
         bad_other m old new o n
-        (rw (front_ends l m h.words h.past.pieces (long_pieces h.words h.are.each) one)
-        (none_good h.words (sym h.are.good ∙ e)))
+        (grind (arith, front_ends, long_pieces, none_good))
 
     pub next_odd : (old new : Spans) (o n : Bool) → is_in_range 2 8 (length (piece_left m)) ≡ false
         → is_one_byte (piece_left m) ≡ false → IsBody c l m old new o n Bad

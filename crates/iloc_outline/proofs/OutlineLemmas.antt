@@ -43,8 +43,12 @@ all_head ps i m =
     let whole : front (after_language w) ≡ after_language w =
     front_whole (after_language w) (long_after_language w m.grammatical.words) in (
       ap head m.spelled ∙ ap (λ qs. w.language ∷ qs) whole ∙ sym m.spelled,
-      ap tail_blocks m.spelled ∙ ap blocks (sym (append-nil (after_language w)))
-          ∙ blocks_behind (after_language w) [] (ap front (append-nil (after_language w)) ∙ whole) refl,
+      cc (
+        m.spelled,
+        append-nil (after_language w),
+        blocks_behind (after_language w) []
+            (ap front (append-nil (after_language w)) ∙ whole) refl,
+      ),
     )
 
 blocks_from : (ps : List Text) → blocks (from_block ps) ≡ blocks ps
@@ -92,15 +96,13 @@ module _ (t : Text) (o : Outline) (spans : Spans) (n : Bool) (h : ReadsHead t (p
     parts = variant_parts h.written.variants;
     inside = h.inside;
     spell = h.variants;
-    text = identifier_text_is (pieces t) h.written h.means
-        ∙ ap (λ x. x ++ parts_text (variant_parts h.written.variants)) (sym h.front);
+    text = cc (identifier_text_is (pieces t) h.written h.means, h.front);
   }
 
   in_order : n ≡ true → front_text o.script o.region t ≡ identifier_text (normal_identifier h.written)
   in_order e = h.order e [] (sym (join-pieces t) ∙ sym (append-nil (join (pieces t))))
       ∙ ap (λ x. join (front_pieces (normal_identifier h.written)) ++ x)
-      (ap (λ x. parts_text (variant_parts h.written.variants) ++ x) lower_nothing
-      ∙ append-nil (parts_text (variant_parts h.written.variants)))
+      (simp (lower_nothing, append-nil))
       ∙ sym (identifier_text_is (pieces t) h.written h.means)
 
   -- the identifier is all of the text
@@ -182,8 +184,7 @@ module _ (t : Text) (o : Outline) (before : Spans) (m : Bool) (l : Cursor)
   -- the text goes on behind its head
   goes_on : t ≡ join (head (pieces t)) ++ dashes (pieces_left l)
   goes_on = sym (join-pieces t) ∙ ap join cut ∙
-      (ap (λ ps. join (ps ++ pieces_left l)) h.means.spelled ∙ join-append _ _ (pieces_left l)
-      ∙ ap (λ ps. join ps ++ dashes (pieces_left l)) (sym h.means.spelled))
+      (grind (arith, join-append))
 
   -- and all is in order
   pub locale_in_order : ReadsBlocks l before spans m n → n ≡ true → (none : Spans) → held_spans none ≡ []

@@ -12,7 +12,7 @@ use Rattle.std.proofs.lemmas.List.Concat.{flat_map-append}
 use Rattle.iloc_spec_grammar.specs.Syntax.{Text, Block, SpelledIdentifier, SpelledUnicode, SpelledTransform}
 use Rattle.iloc_spec_grammar.specs.Syntax.{Fields, IsIdentifier, code_t, code_u, code_x, lower}
 use Rattle.iloc_spec_grammar.specs.Syntax.{kept, is_other_singleton, lower_singleton}
-use Rattle.iloc_spec_grammar.specs.Syntax.{fields_pieces, identifier_pieces, optional_pieces}
+use Rattle.iloc_spec_grammar.specs.Syntax.{fields_pieces, optional_pieces}
 use Rattle.iloc_spec_grammar.specs.Syntax.{IsOther, IsPrivate}
 use Rattle.iloc_spec_grammar.specs.Meaning.{map_of, set_of, normal_identifier, normal_fields}
 use Rattle.iloc_spec_grammar.specs.Meaning.{normal_unicode, normal_transform}
@@ -28,7 +28,7 @@ use Rattle.iloc_spec_grammar.proofs.WordsLaws.{lower-lower, lower-title, lower-u
 use Rattle.iloc_spec_grammar.proofs.RuleTests.{tests_block, extension_read}
 use Rattle.iloc_spec_grammar.proofs.Singletons.{of_u, of_t, of_x, another, kind_of, lower_letter, no_t, no_u}
 use Rattle.iloc_spec_grammar.proofs.Singletons.{no_x}
-use Rattle.iloc_outline.specs.Parts.{Part, singleton_part, front_pieces, variant_parts, optional_front}
+use Rattle.iloc_outline.specs.Parts.{Part, singleton_part, variant_parts, optional_front}
 use Rattle.iloc_outline.specs.Parts.{optional_variants, unicode_parts, transform_parts}
 use Rattle.iloc_outline.specs.Parts.{block_parts, printed_part}
 use Rattle.iloc_spans.specs.declared.span.Role.TheVariants as roles
@@ -70,17 +70,7 @@ set_low ws = map_fixed lower (set_of (map lower ws))
     (all_mapped (λ (w : Text). lower (lower w) ≡ lower w) (λ w. lower w ≡ w) lower (λ w e. e) ws
     (all_of _ lower-lower ws)))
 
--- the normal identifier in lower case: its front, and its variants as a set
-pub identifier_low : (i : SpelledIdentifier) → map lower (identifier_pieces (normal_identifier i))
-    ≡ map lower (front_pieces i) ++ set_of (map lower i.variants)
-identifier_low i = grind (arith, lower-lower, set_low, lower-upper, lower-title)
-
 -- ---- singletons
-
-singleton_printed : (c : ℕ) (ps : List Text) → printed_part (singleton_part c ps)
-    ≡ (to_ascii_lowercase c ∷ []) ∷ cond (is_other_singleton (to_ascii_lowercase c)) (kept ps) (map lower ps)
-unfolding lower
-singleton_printed c ps = refl
 
 -- ---- each block
 
@@ -121,7 +111,14 @@ optional_printed : (T : ℕ → Bool) (o : Option SpelledIdentifier) → IfSome 
     → map lower (optional_front o) ++ flat_map printed_part (variant_parts (optional_variants o))
     ≡ map lower (optional_pieces (option_map normal_identifier o))
 optional_printed T None h = refl
-optional_printed T (Some i) h = search (variants_printed, identifier_low)
+optional_printed T (Some i) h = grind (
+  arith,
+  variants_printed,
+  lower-lower,
+  set_low,
+  lower-upper,
+  lower-title,
+)
 
 transform_printed : (T : ℕ → Bool) (m : SpelledTransform) → IsTransformBlock T m
     → (code_t ∷ []) ∷ (map lower (optional_front m.id) ++ flat_map printed_part (transform_parts m))
@@ -142,10 +139,6 @@ private_printed : (ps : List Text) → IsPrivate ps → (code_x ∷ []) ∷ map 
 unfolding private_spelling
 private_printed ps h = search (printed_some, length-map)
 
-other_printed : (c : ℕ) (ps : List Text) → IsOther ps → (c ∷ []) ∷ kept ps ≡ other_spelling (c, kept ps)
-unfolding other_spelling
-other_printed c ps h = sym (printed_some c (kept ps) h.nonempty)
-
 -- ---- all
 
 -- the parts of a block whose singleton in lower case is c
@@ -158,7 +151,8 @@ parts_at c b = if c == code_t then singleton_part b.0 (optional_front (transform
 start : (c d : ℕ) → to_ascii_lowercase c ≡ d → (ps : List Text) (rest : List Part)
     → flat_map printed_part (singleton_part c ps ∷ rest)
     ≡ (d ∷ []) ∷ (cond (is_other_singleton d) (kept ps) (map lower ps) ++ flat_map printed_part rest)
-start c d e ps rest = grind (arith, singleton_printed)
+unfolding lower
+start c d e ps rest = grind (arith)
 
 abbrev pub Rule : (ℕ → Bool) → ℕ → List Text → Type 0
 Rule T c ps = ((c ≡ code_x) × IsPrivate ps) ⊎ IsExtension T c (extension_of c ps)
@@ -191,6 +185,7 @@ other_rule T c ps o (inr x) = grind (arith, ne_eqb, no_t, no_u)
 -- the parts of a good block print what its value prints
 pub block_printed : (T : ℕ → Bool) (b : Block) → is_ascii_alphanumeric b.0 ≡ true → is_block T b ≡ true
     → flat_map printed_part (block_parts b) ≡ spelled (lower_singleton b) b.1
+unfolding other_spelling
 block_printed T b a g = elim (kind_of (lower_singleton b) (lower_letter b.0 a)) [
   | of_u k ↦
       ap (λ c. flat_map printed_part (parts_at c b)) k
@@ -212,7 +207,7 @@ block_printed T b a g = elim (kind_of (lower_singleton b) (lower_letter b.0 a)) 
       let k : IsOther b.1 = other_rule T c b.1 o (rule_of T b c refl g) in
       let one : flat_map printed_part (singleton_part b.0 b.1 ∷ []) ≡ other_spelling (c, kept b.1) =
       start b.0 c refl b.1 [] ∙ ap (λ h. (c ∷ []) ∷ (cond h (kept b.1) (map lower b.1) ++ [])) o
-      ∙ ap (λ l. (c ∷ []) ∷ l) (append-nil (kept b.1)) ∙ other_printed c b.1 k in
+      ∙ ap (λ l. (c ∷ []) ∷ l) (append-nil (kept b.1)) ∙ (search printed_some) in
       (λ j. flat_map printed_part (cond (t j) (singleton_part b.0
       (optional_front (transform_of b.1).id) ∷ transform_parts (transform_of b.1))
       (cond (u j) (singleton_part b.0 [] ∷ unicode_parts (unicode_of b.1))

@@ -6,7 +6,7 @@ use Rattle.std.specs.List.{AllByRecursion, list_any}
 use Rattle.std.specs.Char.{is_ascii_alphanumeric, to_ascii_lowercase}
 use Rattle.std.specs.Ordering.{nat_cmp, eq_by_cmp, is_lt}
 use Rattle.std.specs.Cmp.{nat_cmp_total}
-use Rattle.std.specs.FinMap.{put, find, is_sorted, nat_cmp-IsAntisymmetric}
+use Rattle.std.specs.FinMap.{find, is_sorted, nat_cmp-IsAntisymmetric}
 use Rattle.std.specs.FinMap.Entries.{below_all}
 use Rattle.std.proofs.lemmas.Bool.{and_parts, cond_both, ne_eqb}
 use Rattle.std.proofs.lemmas.Bool.Decides.{nat_tests}
@@ -142,9 +142,11 @@ at_other c ps bs q o e =
     let b : eq_by_cmp nat_cmp code_u c ≡ false = untied code_u c (λ k. no_u c k o) in
     let s : Option (List Text) = Some (other_spelling (c, kept ps)) in
     rw (x, t, u, a, b) (
-    ap (cond (eq_by_cmp nat_cmp q code_t) _) (ap (cond (eq_by_cmp nat_cmp q code_u) _)
-    (swapped q 255 c (λ k. let m = other_below c o in omega arith) _ s _)
-    ∙ swapped q code_u c (λ k. no_u c (sym k) o) _ s _)
+    ap (cond (eq_by_cmp nat_cmp q code_t) _) (cc (
+      swapped q 255 c
+          (λ k. let m = other_below c o in omega arith) _ s _,
+      swapped q code_u c (λ k. no_u c (sym k) o) _ s _,
+    ))
     ∙ swapped q code_t c (λ k. no_t c (sym k) o) _ s _ ∙ ap (cond (eq_by_cmp nat_cmp q c) s) e
     )
 
@@ -229,42 +231,36 @@ shown_in_order es x h =
     let u : List Text = unicode_spelling (unicode_part (find nat_cmp code_u es)) in
     let last : List (ℕ × List Text) = (255, private_spelling x) ∷ [] in
     let low : AllByRecursion (λ e. e.0 < code_t) before =
-    all_mapped (λ (o : Block). o.0 < code_t) _ shown_other (λ o k. k) (before_t os) (before_low os keys) in
+    search (all_mapped, before_low) in
     let high : AllByRecursion (λ e. (code_u < e.0) × (e.0 < 255)) after =
     all_mapped IsBetween _ shown_other (λ o k. k) (after_t os)
     (after_high os (is_sorted-map_of nat_cmp nat_cmp_total (filter_map other_part es)) keys) in
     let others : map_of nat_cmp (map shown_other (filter_map other_part es)) ≡ before ++ after =
-    sym (map_of_carried nat_cmp nat_cmp nat_cmp-IsAntisymmetric nat_cmp-IsAntisymmetric (λ _. Unit {0})
-    (λ (o : Block). o.0) (λ o. other_spelling o) (λ e f _ _. refl) (filter_map other_part es)
-    (all_of _ (λ _. tt) (filter_map other_part es)))
-    ∙ ap (map shown_other) (sym (before_after os)) ∙ map-append shown_other (before_t os) (after_t os) in
-    let in_order : map_of nat_cmp (shown es x) ≡ before ++ (code_t, t) ∷ (code_u, u) ∷ (after ++ last) =
-    ap (λ l. put nat_cmp code_t t (put nat_cmp code_u u (put nat_cmp 255 (private_spelling x) l)))
-    (others ∙ sym (append-nil (before ++ after)))
-    ∙ ap (λ l. put nat_cmp code_t t (put nat_cmp code_u u l))
-    (put_between 255 (private_spelling x) (before ++ after) []
-    (all_append (λ e. e.0 < 255) before after (all_weaker _ _ (λ e k. omega arith) before low)
-    (all_weaker _ _ (λ e k. k.1) after high)) tt ∙ append_assoc before after last)
-    ∙ ap (put nat_cmp code_t t) (put_between code_u u before (after ++ last)
-    (all_weaker _ _ (λ e k. omega arith) before low)
-    (all_append (λ e. code_u < e.0) after last (all_weaker _ _ (λ e k. k.0) after high)
-    (omega arith, tt)))
-    ∙ put_between code_t t before ((code_u, u) ∷ (after ++ last)) low (
-      omega arith,
-      all_append (λ e. code_t < e.0) after last (all_weaker _ _ (λ e k. omega arith) after high)
-          (omega arith, tt),
+    cc (
+      map_of_carried nat_cmp nat_cmp nat_cmp-IsAntisymmetric nat_cmp-IsAntisymmetric (λ _. Unit {0})
+          (λ (o : Block). o.0) (λ o. other_spelling o) (λ e f _ _. refl) (filter_map other_part es)
+          (all_of _ (λ _. tt) (filter_map other_part es)),
+      before_after os,
+      map-append shown_other (before_t os) (after_t os),
     ) in
-    ap flat in_order ∙ flat-append before ((code_t, t) ∷ (code_u, u) ∷ (after ++ last))
-    ∙ (λ j. flat_map-map (λ (e : ℕ × List Text). e.1) shown_other (before_t os) j ++
-    (t ++ (u ++ (flat-append after last ∙ (λ i. flat_map-map (λ (e : ℕ × List Text). e.1) shown_other
-    (after_t os) i ++ append-nil (private_spelling x) i)) j)))
-    ∙ sym (spelling_of_parts (record {
-      unicode = unicode_part (find nat_cmp code_u es);
-      transform =
-          transform_part (find nat_cmp code_t es);
-      private = x;
-      others = os;
-    }))
+    let in_order : map_of nat_cmp (shown es x) ≡ before ++ (code_t, t) ∷ (code_u, u) ∷ (after ++ last) =
+    cc (
+      others,
+      append-nil (before ++ after),
+      put_between 255 (private_spelling x) (before ++ after) []
+          (all_append (λ e. e.0 < 255) before after (all_weaker _ _ (λ e k. omega arith) before low)
+          (all_weaker _ _ (λ e k. k.1) after high)) tt,
+      append_assoc before after last,
+      put_between code_u u before (after ++ last) (all_weaker _ _ (λ e k. omega arith) before low)
+          (all_append (λ e. code_u < e.0) after last (all_weaker _ _ (λ e k. k.0) after high)
+          (omega arith, tt)),
+      put_between code_t t before ((code_u, u) ∷ (after ++ last)) low (
+        omega arith,
+        all_append (λ e. code_t < e.0) after last
+            (all_weaker _ _ (λ e k. omega arith) after high) (omega arith, tt),
+      ),
+    ) in
+    grind (arith, flat, flat-append, flat_map-map, append-nil, spelling_of_parts)
 
 -- ---- the law
 
@@ -296,22 +292,6 @@ printed_entry e = (e.0, flat_map printed_part e.1)
 flat-printed : (es : List (ℕ × List Part)) → flat (map printed_entry es) ≡ flat_map printed_part (flat es)
 flat-printed [] = refl
 flat-printed (e ∷ es) = simp (flat_map-append, flat, flat-printed es)
-
--- the parts of good blocks print what the blocks show
-blocks_printed : (T : LanguageLengths) (bs : List Block) → AllByRecursion (IsGood T) bs
-    → flat_map printed_part (blocks_parts bs) ≡ flat (map_of nat_cmp (shown_blocks (by_singleton bs)))
-blocks_printed T bs h =
-    sym (flat-printed (map_of nat_cmp (map ranked bs)))
-    ∙ ap flat (map_of_carried nat_cmp nat_cmp nat_cmp-IsAntisymmetric nat_cmp-IsAntisymmetric (λ _. Unit {0})
-    (λ (e : ℕ × List Part). e.0) (λ e. flat_map printed_part e.1) (λ e f _ _. refl) (map ranked bs)
-    (all_of _ (λ _. tt) (map ranked bs))
-    ∙ ap (map_of nat_cmp) (map-map printed_entry ranked bs
-    ∙ map-same (λ b. printed_entry (ranked b)) (λ
-    (b : Block). (rank (lower_singleton b), spelled (lower_singleton b) b.1)) bs
-    (all_weaker (IsGood T) _ (λ b g. ap (λ l. (rank (lower_singleton b), l))
-    (block_printed T b g.0 g.1)) bs h)
-    ∙ sym (map-map {C = ℕ × List Text} (λ b. (rank b.0, spelled b.0 b.1))
-    (λ (b : Block). (lower_singleton b, b.1)) bs)))
 
 -- what is printed of the parts of blocks that have no fault is what the blocks mean
 pub blocks_text : (ps : List Text) → first_fault languages [] (tail_blocks ps) ≡ None
@@ -345,4 +325,13 @@ blocks_text ps h =
     ((code_u, []) ∷ (255, []) ∷ [])))
     ∙ flat-last 255 ((shown_blocks low ++ (code_t, []) ∷ []) ++ (code_u, []) ∷ [])
     ∙ flat-last code_u (shown_blocks low ++ (code_t, []) ∷ []) ∙ flat-last code_t (shown_blocks low)
-    ∙ sym (blocks_printed languages bs good)
+    ∙ sym (sym (flat-printed (map_of nat_cmp (map ranked bs)))
+    ∙ ap flat (map_of_carried nat_cmp nat_cmp nat_cmp-IsAntisymmetric nat_cmp-IsAntisymmetric
+    (λ _. Unit {0}) (λ (e : ℕ × List Part). e.0) (λ e. flat_map printed_part e.1) (λ e f _ _. refl)
+    (map ranked bs) (all_of _ (λ _. tt) (map ranked bs))
+    ∙ ap (map_of nat_cmp) (map-map printed_entry ranked bs
+    ∙ map-same (λ b. printed_entry (ranked b)) (λ (b : Block).
+    (rank (lower_singleton b), spelled (lower_singleton b) b.1)) bs
+    (all_weaker (IsGood languages) _ (λ b g. ap (λ l. (rank (lower_singleton b), l))
+    (block_printed languages b g.0 g.1)) bs good) ∙ sym (map-map {C = ℕ × List Text}
+    (λ b. (rank b.0, spelled b.0 b.1)) (λ (b : Block). (lower_singleton b, b.1)) bs))))

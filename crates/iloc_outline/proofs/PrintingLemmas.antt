@@ -250,8 +250,7 @@ bytes_after : (t : Text) (start end : ℕ) → start < end → drop 1 (bytes_fro
     ≡ bytes_from t (start + 1) end
 bytes_after t start end l =
     let n : end - start ≡ 1 + (end - (start + 1)) = omega arith in
-    ap (λ k. drop 1 (take k (drop start t))) n ∙ drop-take 1 (end - (start + 1)) (drop start t)
-    ∙ ap (take (end - (start + 1))) (drop-drop 1 start t)
+    cc (n, drop-take 1 (end - (start + 1)) (drop start t), drop-drop 1 start t)
 
 module _ (t : Text) (s : Span) (p : Part) (is : IsSpan t s p) where
   pub span_long : length (bytes_from t s.start s.end) ≡ s.end - s.start
@@ -283,13 +282,9 @@ module _ (t : Text) (s : Span) (p : Part) (is : IsSpan t s p) where
     where
       at : (b : Bool) → s.edited ≡ b → span_text t s ≡ dashes (printed_part p)
       at true e =
-          ap (λ b. cond b (edited_text s.role (bytes_from t (s.start + 1) s.end))
-          (lower (bytes_from t s.start s.end))) e
-          ∙ (λ j. dashes (printed_by (is.role j) (span_pieces e j)))
+          grind (arith, span_pieces)
       at false e =
-          ap (λ b. cond b (edited_text s.role (bytes_from t (s.start + 1) s.end))
-          (lower (bytes_from t s.start s.end))) e
-          ∙ ap lower is.spanned.bytes ∙ sym (lower_dashes p.pieces) ∙ ap dashes (sym (is.same e))
+          grind (arith, lower_dashes)
 
 pub spans_are : (t : Text) (ss : List Span) (ps : List Part) → AllZip (IsSpan t) ss ps
     → flat_map (span_text t) ss ≡ parts_text ps
@@ -318,44 +313,32 @@ module _ {X : Type 0} (f : X → Text) (xs : List X) (i : ℕ) (d : X) (l : i < 
       (flat_map f xs)
   flat_room =
       let whole : flat_map f (take (i + 1) xs) ++ flat_map f (drop (i + 1) xs) ≡ flat_map f xs =
-      sym (flat_map-append f (take (i + 1) xs) (drop (i + 1) xs))
-      ∙ ap (flat_map f) (take-append-drop (i + 1) xs) in
-      omega (
-        arith,
-        ap length whole,
-        ap length flat_more,
-        length-append (flat_map f (take (i + 1) xs))
-            (flat_map f (drop (i + 1) xs)),
-        length-append (flat_map f (take i xs)) (f (slice_index_or xs i d)),
-      )
-
--- a span of the first bytes is one of all
-pub span_wider : (w : Text) (len : ℕ) → len ≤ length w → (s : Span) (p : Part) → IsSpan (take len w) s p
-    → IsSpan w s p
-span_wider w len l s p is =
-    let inside : s.end ≤ len = omega (arith, is.spanned.inside, length-take-le len w l) in
-    let n : len ≡ s.start + (len - s.start) = omega (arith, is.spanned.ascends) in
-    record {
-      role = is.role;
-      word = is.word;
-      same = is.same;
-      short = is.short;
-      spanned = record {
-        ascends = is.spanned.ascends;
-        inside = omega (arith, is.spanned.inside, length-take-le len w l);
-        bytes = sym (take-take (s.end - s.start) (len - s.start) (drop s.start w) (omega arith))
-            ∙ ap (take (s.end - s.start)) (sym (drop-take s.start (len - s.start) w)
-            ∙ ap (λ k. drop s.start (take k w)) (sym n))
-            ∙ is.spanned.bytes;
-      };
-    }
+      simp (← flat_map-append, take-append-drop) in
+      grind (arith, flat_more, length-append)
 
 pub spell_wider : (w : Text) (len : ℕ) → len ≤ length w → (ss : List Span) (ps : List Part)
     → AllZip (IsSpan (take len w)) ss ps → AllZip (IsSpan w) ss ps
 spell_wider w len l [] [] h = tt
 spell_wider w len l [] (p ∷ ps) h = absurd h
 spell_wider w len l (s ∷ ss) [] h = absurd h
-spell_wider w len l (s ∷ ss) (p ∷ ps) h = (span_wider w len l s p h.0, spell_wider w len l ss ps h.1)
+spell_wider w len l (s ∷ ss) (p ∷ ps) h = (
+  (let inside : s.end ≤ len = omega
+      (arith, h.0.spanned.inside, length-take-le len w l) in let n : len ≡ s.start + (len - s.start) = omega
+      (arith, h.0.spanned.ascends) in record {
+        role = h.0.role;
+        word = h.0.word;
+        same = h.0.same;
+        short = h.0.short;
+        spanned = record {
+          ascends = h.0.spanned.ascends;
+          inside = omega (arith, h.0.spanned.inside, length-take-le len w l);
+          bytes = sym (take-take (s.end - s.start) (len - s.start) (drop s.start w) (omega arith))
+              ∙ ap (take (s.end - s.start)) (sym (drop-take s.start (len - s.start) w)
+              ∙ ap (λ k. drop s.start (take k w)) (sym n)) ∙ h.0.spanned.bytes;
+        };
+      }),
+  spell_wider w len l ss ps h.1,
+)
 
 -- there is room for one span more
 pub span_room : (w : Text) (ss : List Span) (ps : List Part) → AllZip (IsSpan w) ss ps

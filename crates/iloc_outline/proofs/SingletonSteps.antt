@@ -11,7 +11,7 @@ use Rattle.iloc_spec_grammar.specs.Syntax.{first_piece, is_one_byte, languages}
 use Rattle.iloc_spec_grammar.specs.Meaning.{Fault}
 use Rattle.iloc_spec_grammar.specs.Meaning as faults
 use Rattle.iloc_spec_grammar.specs.Reading.{rest_of, transform_of, unicode_of}
-use Rattle.iloc_spec_grammar.specs.Computing.{first_fault, is_block}
+use Rattle.iloc_spec_grammar.specs.Computing.{first_fault}
 use Rattle.iloc_spec_grammar.proofs.Singletons.{two_more, untied}
 use Rattle.iloc_subtags.specs.declared.parse_error.ParseError.{ParseError}
 use Rattle.iloc_subtags.specs.declared.parse_error.ParseError.TheVariants.{InvalidExtension, InvalidSubtag}
@@ -53,13 +53,9 @@ unseen : (last r : ℕ) → last < r → (ks : Text) → AllByRecursion (λ k. k
 unseen last r l [] h = refl
 unseen last r l (k ∷ ks) h = grind (arith, or_from, untied, unseen last r l ks h.1)
 
--- a singleton with nothing behind it is bad
-empty_block : (c : ℕ) → is_block languages (c, []) ≡ false
-unfolding transform_of unicode_of
-empty_block c = grind (arith, or_from, and-false)
-
 nothing_bad : (c : ℕ) → IsBadBlock c false (body_of c [])
-nothing_bad c = grind (arith, empty_block, no_language, and-false)
+unfolding transform_of unicode_of
+nothing_bad c = grind (arith, no_language, or_from, and-false)
 
 -- ---- what the reader answers
 
@@ -224,13 +220,7 @@ module _ {l : Cursor} {old : Spans} {o : Bool} {at : Cursor} {last : ℕ} {now :
         → IsDone l old o (pieces_left j) top placed k → IsAt l old o j top placed k
     next_at j r top placed d =
         let to = read_next byte_at m j now mid p k r in
-        record {
-          later = to.later;
-          single = to.single;
-          text = to.text ∙ same_text x.next;
-          end = omega (arith, to.end, x.next.end, h.end);
-          before = d;
-        }
+        search same_text
 
     -- less is left
     pub less_at : (j : Cursor) → IsBlockRead byte_at m j now mid p k Next → j.remaining < at.remaining

@@ -1,7 +1,7 @@
 -- Which pieces may follow `t`: an identifier and fields, one of both at least.
-use Rattle.std.proofs.Common.{◌≡◌, ◌≢◌, ◌⊎◌, inl, inr, ℕ, ◌<◌, Bool, true, false, cond, List, [], ◌∷◌}
+use Rattle.std.proofs.Common.{◌≡◌, ◌≢◌, ◌⊎◌, inl, inr, ℕ, ◌<◌, Bool, true, false, List, [], ◌∷◌}
 use Rattle.std.proofs.Common.{◌++◌, length, map, refl, sym, ap, ◌∙◌, arith, Option, Some, None, IfSome}
-use Rattle.std.proofs.Common.{option_to_list, append_assoc, true≢false}
+use Rattle.std.proofs.Common.{append_assoc, true≢false}
 use Rattle.std.specs.List.{AllByRecursion}
 use Rattle.std.specs.Char.{to_ascii_lowercase}
 use Rattle.std.proofs.lemmas.Bool.{and_parts, and_from, ne_eqb}
@@ -71,8 +71,7 @@ alone ps m none h cut = by m.id m.fields h.id h.fields h.nonempty cut
         → (o ≡ None → 0 < length fs) → ps ≡ optional_pieces o ++ fields_pieces fs → AreFields ps × (ps ≢ [])
     by None fs i f n cut = ((fs, f, cut), λ e. some fs (n refl) (sym cut ∙ e))
     by (Some j) fs i f n cut =
-        absurd (true≢false (sym i.words.language
-        ∙ ap (λ l. is_word (Language languages) (first_piece l)) (sym cut) ∙ none))
+        cc
 
 fields_end : (fs : Fields) → AllByRecursion IsField fs → EndsWords (fields_pieces fs)
 fields_end [] h = record { script = tt; region = tt; variant = tt }
@@ -93,14 +92,7 @@ after_words ps m word h cut = by m.id m.fields h.id h.fields cut
         → ps ≡ optional_pieces o ++ fields_pieces fs → AreFields (after_front ps)
     by None fs i f cut = absurd
         (key_first fs f (rw cut at word))
-    by (Some j) fs i f cut = (
-      fs,
-      f,
-      ap after_front cut
-          ∙ after_front-append j.language (option_to_list j.script ++ (option_to_list j.region ++ j.variants))
-          (fields_pieces fs) (fields_end fs f)
-          ∙ ap (λ l. l ++ fields_pieces fs) (after_front-pieces j i.words),
-    )
+    by (Some j) fs i f cut = grind (arith, after_front-append, fields_end, after_front-pieces)
 
 pub alone_bad : (c : ℕ) (ps : List Text) → to_ascii_lowercase c ≡ code_t
     → is_word (Language languages) (first_piece ps) ≡ false → (ps ≢ [] → ¬ (AreFields ps))
@@ -122,9 +114,6 @@ front_bad c ps e word bad =
 abbrev IsFieldWord : Text → Type 0
 IsFieldWord p = IsWord TransformKey p ⊎ IsWord Attribute p
 
-field_words : (fs : Fields) → AllByRecursion IsField fs → AllByRecursion IsFieldWord (fields_pieces fs)
-field_words fs h = fields_each IsFieldWord TransformKey (λ p k. inl k) (λ p a. inr a) fs (plain_fields fs h)
-
 last_of : (P : Text → Type 0) (ps : List Text) (q : Text) (qs : List Text) → AllByRecursion P (ps ++ (q ∷ qs))
     → P q
 last_of P [] q qs h = h.0
@@ -136,14 +125,14 @@ no_fields_first q qs none (fs, h, cut) = by fs h cut
   where
     by : (fs : Fields) → AllByRecursion IsField fs → q ∷ qs ≡ fields_pieces fs → ⊥
     by [] h cut = cc
-    by (f ∷ fs) h cut = true≢false
-        (sym h.0.0 ∙ ap (λ l. is_word TransformKey (first_piece l)) (sym cut) ∙ none)
+    by (f ∷ fs) h cut = cc
 
 -- one that is neither key nor value comes after fields
 pub no_fields_later : (ps : List Text) (q : Text) (qs : List Text) → IsNoKey q → is_word Attribute q ≡ false
     → ¬ (AreFields (ps ++ (q ∷ qs)))
 no_fields_later ps q qs none odd (fs, h, cut) =
-    by (last_of IsFieldWord ps q qs (rw cut (field_words fs h)))
+    by (last_of IsFieldWord ps q qs (rw cut (fields_each IsFieldWord TransformKey (λ p k. inl k)
+    (λ p a. inr a) fs (plain_fields fs h))))
   where
     by : IsFieldWord q → ⊥
     by (inl k) = true≢false (sym k ∙ none)
@@ -180,8 +169,12 @@ no_fields_key ps k (gs, h, cut) = bad_value (last_field k.fields (rw same at h))
         rw (first, all, values, others) (ap (λ l. f ∷ l) (from_key fs p.1))
 
     same : gs ≡ k.fields ++ ((k.key, before_key test k.rest) ∷ fields_from test k.rest)
-    same = sym (fields_read test gs (fields_pass gs h)) ∙ ap (fields_from test) (sym cut ∙ k.cut)
-        ∙ from_key k.fields (fields_pass k.fields k.each)
+    same = cc (
+      fields_read test gs (fields_pass gs h),
+      cut,
+      k.cut,
+      from_key k.fields (fields_pass k.fields k.each),
+    )
 
     last_field : (fs : Fields)
         → AllByRecursion IsField (fs ++ ((k.key, before_key test k.rest) ∷ fields_from test k.rest))
@@ -196,11 +189,7 @@ no_fields_key ps k (gs, h, cut) = bad_value (last_field k.fields (rw same at h))
             → AllByRecursion (IsWord Attribute) (before_key test qs) → 0 < length (before_key test qs) → ⊥
         by [] none each some = omega arith
         by (q ∷ qs) none each some =
-            (elim (test q) as (λ b. AllByRecursion (IsWord Attribute) (cond b [] (q ∷ before_key test qs))
-            → 0 < length (cond b [] (q ∷ before_key test qs)) → ⊥) [
-              | true ↦ λ each some. omega arith
-              | false ↦ λ each some. true≢false (sym each.0 ∙ none)
-            ]) each some
+            grind (arith, true≢false)
 
 -- ---- the identifier at the front
 
@@ -231,10 +220,12 @@ pieces_front_of = at_language _ (λ p ps h. pieces-front_of p ps)
 -- the words are the same of the body
 pub front_of_body : AtLanguage (λ ps. front_of (front ps) ≡ front_of ps)
 front_of_body = at_language _ (λ p ps h.
-    ap front_of (body_first p ps h)
-    ∙ sym (front_of-append p (front ps) (from_block ps)
-    (starts_ends (from_block ps) (from_block_starts ps)))
-    ∙ ap (λ l. front_of (p ∷ l)) (front-from_block ps))
+    cc (
+      body_first p ps h,
+      front_of-append p (front ps) (from_block ps)
+          (starts_ends (from_block ps) (from_block_starts ps)),
+      front-from_block ps,
+    ))
 
 pub words_front : (ps : List Text) → IsWord (Language languages) (first_piece ps)
     → HasWords languages (front_of ps)
@@ -253,8 +244,7 @@ after_front_body ps h =
     let whole : front ps ≡ ids ++ front rest =
     ap front (sym (pieces_front_of ps h)) ∙ front_past ids rest (long_front ps h) in
     append_cancel_left ids _ _
-    (ap (λ i. identifier_pieces i ++ after_front (front ps)) (sym (front_of_body ps h))
-    ∙ pieces_front_of (front ps) (first_body ps h) ∙ whole)
+    (cc (front_of_body ps h, pieces_front_of (front ps) (first_body ps h), whole))
 
 -- a variant that comes twice
 pub repeats : AtLanguage

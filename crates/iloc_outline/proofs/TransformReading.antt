@@ -1,5 +1,5 @@
 -- What the reader of `t` says.
-use Rattle.std.proofs.Common.{◌≡◌, ◌≢◌, ◌⊎◌, inl, inr, ℕ, ◌+◌, ◌-◌, ◌<◌, Bool, true, false, cond, List, []}
+use Rattle.std.proofs.Common.{◌≡◌, ◌≢◌, ◌⊎◌, inl, inr, ℕ, ◌+◌, ◌-◌, ◌<◌, Bool, true, false, List, []}
 use Rattle.std.proofs.Common.{◌∷◌, ◌++◌, length, map, refl, sym, ap, ◌∙◌, subst, arith, Option, Some, None}
 use Rattle.std.proofs.Common.{append_assoc, append-nil, length-append}
 use Rattle.std.specs.List.{AllByRecursion}
@@ -11,13 +11,13 @@ use Rattle.iloc_spec_grammar.specs.Syntax.{SpelledTransform, AllDifferent, field
 use Rattle.iloc_spec_grammar.specs.Syntax.{optional_pieces, transform_pieces, languages, is_one_byte}
 use Rattle.iloc_spec_grammar.specs.Syntax.{is_other_singleton, first_piece, front, lower, word_cmp}
 use Rattle.iloc_spec_grammar.specs.Tree.{IsTransformBlock}
-use Rattle.iloc_spec_grammar.specs.Reading.{after_front, after_region, front_of, passing, transform_of}
+use Rattle.iloc_spec_grammar.specs.Reading.{after_front, after_region, front_of, passing}
 use Rattle.iloc_spec_grammar.proofs.PiecesLaws.{pieces_nonempty}
 use Rattle.iloc_spec_grammar.proofs.Readings.{IsLong, long_attribute}
 use Rattle.iloc_spec_grammar.proofs.ReadBack.{all_append, fields_each, plain_fields}
 use Rattle.iloc_spec_grammar.proofs.WordsLaws.{length-transform_key}
 use Rattle.iloc_pieces.specs.Cursor.{IsPast, IsSpanned, piece_left, pieces_left, bytes_left, whole_text}
-use Rattle.iloc_outline.specs.Parts.{block_parts, field_part, front_pieces, in_order, optional_front}
+use Rattle.iloc_outline.specs.Parts.{field_part, front_pieces, in_order, optional_front}
 use Rattle.iloc_outline.specs.Parts.{optional_variants, rank, singleton_part, transform_parts, variant_parts}
 use Rattle.iloc_outline.specs.Reading.{AreFieldsRead, AreWordsRead, EndsAtBlock, EndsInKey, IsBody}
 use Rattle.iloc_outline.specs.Reading.{Puts, ReadsBlock, ReadsFields, ReadsWords, block_span}
@@ -61,12 +61,6 @@ front_is_all ps word cut = grind (
   append-nil,
 )
 
--- the parts of the block
-parts_of_t : (c : ℕ) (ps : List Text) (m : SpelledTransform) → to_ascii_lowercase c ≡ code_t →
-    transform_of ps ≡ m
-    → block_parts (c, ps) ≡ singleton_part c (optional_front m.id) ∷ transform_parts m
-parts_of_t c ps m e h = rw (e, h)
-
 -- the singleton with the front of an identifier, variants and fields were put
 good_block : (c start end : ℕ) (l : Cursor) (id : Option SpelledIdentifier) (fs : Fields)
     (old mid mid' new : Spans)
@@ -100,7 +94,7 @@ good_block c start end l id fs old mid mid' new o o' n e spanned put variants fi
       body = body;
       good = good.0;
       puts = subst (λ parts. Puts (whole_text l) parts ((c ∷ []) ∷ transform_pieces m) old new o n)
-          (sym (parts_of_t c (transform_pieces m) m e good.1))
+          (sym (cc))
           (rw pieces at all);
     }
 
@@ -126,9 +120,7 @@ module _ (c start : ℕ) (l : Cursor) (e : to_ascii_lowercase c ≡ code_t)
       by : (ps : List Text) → is_word (Language languages) (first_piece ps) ≡ false
           → is_word (Language languages) (first_piece (front ps)) ≡ false
       by [] h = h
-      by (p ∷ ps) h = elim (is_one_byte p) as
-          (λ b. is_word (Language languages) (first_piece (cond b [] (p ∷ front ps))) ≡ false)
-          [ true ↦ refl | false ↦ h ]
+      by (p ∷ ps) h = grind (arith)
 
   bad_alone : (m : Cursor) (old new : Spans) (o n : Bool)
       → (front (pieces_left l) ≢ [] → ¬ (AreFields (front (pieces_left l)))) → IsBody c l m old new o n Bad
@@ -194,8 +186,7 @@ module _ (c start : ℕ) (l : Cursor) (e : to_ascii_lowercase c ≡ code_t)
     alone_read k new n Next Bad h ends = alone_stranger k new n h ends
     alone_read k new n Next _ h ends = absurd (ends tt)
     alone_read k new n Bad s h ends =
-        rw (← ends) (bad_alone k old new o n
-        (λ _ f. no_fields_key (front (pieces_left l)) (body_ends_in_key (pieces_left l) h.1) f))
+        rw (← ends) (search (bad_alone, no_fields_key, body_ends_in_key))
     alone_read k new n Repeated s h ends = absurd (h tt)
     alone_read k new n Full s h ends = grind (arith, length-append)
 
@@ -225,12 +216,7 @@ module _ (c start end : ℕ) (l : Cursor) (e : to_ascii_lowercase c ≡ code_t)
   good_id mid' new o' n fs different h variants fields body =
       good_block c start end l (Some (front_of (pieces_left l))) fs old mid mid' new o o' n e spanned put
       variants fields
-      (record {
-        id = record { words = words_front (pieces_left l) word; different = different };
-        fields =
-            h;
-        nonempty = λ none. cc;
-      }) body
+      (grind (arith, words_front)) body
 
   -- language, script and region alone
   pub front_alone : (k : Cursor) → pieces_left l ≡ front_pieces (front_of (pieces_left l))
@@ -242,9 +228,7 @@ module _ (c start end : ℕ) (l : Cursor) (e : to_ascii_lowercase c ≡ code_t)
       let all : pieces_left l ≡ identifier_pieces i ++ [] =
       whole.1 ∙ sym (append-nil (identifier_pieces i)) in
       let body : front (pieces_left l) ≡ identifier_pieces i ++ [] =
-      ap front (all ∙ append-nil (identifier_pieces i))
-      ∙ front_whole (identifier_pieces i) (long_front (pieces_left l) word)
-      ∙ sym (append-nil (identifier_pieces i)) in
+      grind (arith, append-nil, front_whole, long_front) in
       subst (λ ps. ReadsBlock c l ps old mid o o) (sym all)
       (good_id mid mid o o [] (rw none tt) tt
       (rw none (puts_none (whole_text l) mid o)) (puts_none (whole_text l) mid o) body)
@@ -282,9 +266,7 @@ module _ (c start end : ℕ) (l : Cursor) (e : to_ascii_lowercase c ≡ code_t)
         let all : pieces_left l ≡ identifier_pieces i ++ [] =
         first.pieces ∙ identifier_all (pieces_left m) new n h ∙ sym (append-nil (identifier_pieces i)) in
         let body : front (pieces_left l) ≡ identifier_pieces i ++ [] =
-        ap front (all ∙ append-nil (identifier_pieces i))
-        ∙ front_whole (identifier_pieces i) (long_front (pieces_left l) word)
-        ∙ sym (append-nil (identifier_pieces i)) in
+        grind (arith, append-nil, front_whole, long_front) in
         rw all (good_id new new n n [] (all_different (pieces_left m) new n h) tt
         (variants_put (pieces_left m) new n h)
         (puts_none (whole_text l) new n) body)
@@ -330,12 +312,7 @@ module _ (c start end : ℕ) (l : Cursor) (e : to_ascii_lowercase c ≡ code_t)
       fields_next : (j : Cursor) (new : Spans) (n : Bool) → AreFieldsRead roles.Field k j mid' new o' n Next
           → is_one_byte (piece_left j) ≡ true → IsBody c l j old new o n Next
       fields_next j new n (fs, later, no_key, either, h) one =
-          let both = past_past before later in (
-            identifier_pieces (front_of (pieces_left l)) ++ fields_pieces fs,
-            both,
-            one,
-            good_fields new n fs h (front_ends l j _ both.pieces (long_all fs h.each) one),
-          )
+          let both = past_past before later in search (good_fields, front_ends, long_all)
 
       fields_stranger : (j : Cursor) (new : Spans) (n : Bool)
           → AreFieldsRead roles.Field k j mid' new o' n Next → is_one_byte (piece_left j) ≡ false
@@ -361,9 +338,7 @@ module _ (c start end : ℕ) (l : Cursor) (e : to_ascii_lowercase c ≡ code_t)
       fields_read j new n Next Bad h ends = fields_stranger j new n h ends
       fields_read j new n Next _ h ends = absurd (ends tt)
       fields_read j new n Bad s h ends =
-          rw (← ends) (bad_after j new n (all_different vs mid' o' words)
-          (λ f. no_fields_key (front (pieces_left k)) (body_ends_in_key (pieces_left k) h.1)
-          (subst AreFields (ap front left_over) f)))
+          rw (← ends) (search (bad_after, all_different, no_fields_key, body_ends_in_key, left_over))
       fields_read j new n Repeated s h ends = absurd (h tt)
       fields_read j new n Full s h ends = grind (arith, one_more, length-append)
 

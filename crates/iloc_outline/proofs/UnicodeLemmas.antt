@@ -6,7 +6,7 @@ use Rattle.std.specs.List.{AllByRecursion}
 use Rattle.std.specs.Char.{to_ascii_lowercase}
 use Rattle.iloc_spec_grammar.specs.Syntax.{Text, code_t, code_u, UnicodeKey, Attribute, is_word, IsWord}
 use Rattle.iloc_spec_grammar.specs.Syntax.{IsKeyword, Fields, SpelledUnicode, fields_pieces, unicode_pieces}
-use Rattle.iloc_spec_grammar.specs.Syntax.{languages, is_one_byte, is_other_singleton, first_piece, front}
+use Rattle.iloc_spec_grammar.specs.Syntax.{languages, is_one_byte, is_other_singleton, front}
 use Rattle.iloc_spec_grammar.specs.Tree.{Extension, unicode, transform, other, IsBlock, IsExtension}
 use Rattle.iloc_spec_grammar.specs.Tree.{IsUnicodeBlock, extension_pieces}
 use Rattle.iloc_spec_grammar.specs.Reading.{unicode_of}
@@ -97,16 +97,13 @@ no_word_after (p ∷ ps) qs q a k h = no_word_after ps qs q a k h.1
 
 -- ---- what the reader says
 
-single_empty : (c : ℕ) → to_ascii_lowercase c ≡ code_u → is_block languages (c, []) ≡ false
-single_empty c e = unicode_bad c [] e (λ some. absurd (some refl))
-
 no_t_of_u : (c : ℕ) (P : Type 0) → to_ascii_lowercase c ≡ code_u → ¬ ((to_ascii_lowercase c ≡ code_t) × P)
 no_t_of_u c P e h = omega (arith, e, h.0)
 
 -- a singleton follows
 pub unicode_single : (c : ℕ) (l m : Cursor) (old new : Spans) (o n : Bool) → to_ascii_lowercase c ≡ code_u
     → is_one_byte (piece_left l) ≡ true → IsBody c l m old new o n Bad
-unicode_single c l m old new o n e single = search (front_single, single_empty, no_t_of_u)
+unicode_single c l m old new o n e single = search (front_single, no_t_of_u, unicode_bad)
 
 -- the parts of the block
 parts_of_u : (c : ℕ) (ps : List Text) (u : SpelledUnicode) → to_ascii_lowercase c ≡ code_u → unicode_of ps ≡ u
@@ -138,11 +135,7 @@ module _ (c start : ℕ) (l : Cursor) (e : to_ascii_lowercase c ≡ code_u)
       (ws ++ fields_pieces fs) old mid new o o n
       (puts_singleton (whole_text l) c start (l.at - 1) [] old mid o spanned known place) puts in
       let good = unicode_good c ws fs e h k some in
-      record {
-        body = body;
-        good = good.0;
-        puts = rw (parts_of_u c (ws ++ fields_pieces fs) u e good.1) both;
-      }
+      grind (arith, parts_of_u)
 
   long_words : (ws : List Text) (fs : Fields) → AllByRecursion (IsWord Attribute) ws
       → AllByRecursion IsKeyword fs → AllByRecursion IsLong (ws ++ fields_pieces fs)
@@ -192,31 +185,18 @@ module _ (c start : ℕ) (l : Cursor) (e : to_ascii_lowercase c ≡ code_u)
         → is_one_byte (piece_left k) ≡ true → IsBody c l k old new o n Next
     keywords_next k new n (fs, later, no_key, either, h) one =
         let both = past_past past later in
-        let each = long_words ws fs all_attributes h.each in (
-          ws ++ fields_pieces fs,
-          both,
-          one,
-          good_block new n ws fs all_attributes h.each (some_passed l k _ both.pieces long one)
-              (front_ends l k (ws ++ fields_pieces fs) both.pieces each one) (both_put new n fs h),
-        )
+        search (long_words, all_attributes, good_block, some_passed, front_ends, both_put)
 
     keywords_bad : (k : Cursor) (new : Spans) (n : Bool) → AreFieldsRead roles.Keyword m k mid' new o' n Next
         → is_one_byte (piece_left k) ≡ false → IsBody c l k old new o n Bad
     keywords_bad k new n (fs, later, no_key, either, h) long =
         let both = past_past past later in
-        let body = front_goes_on l k (ws ++ fields_pieces fs) both.pieces
-        (long_words ws fs all_attributes h.each) long in (
-          ap (λ ps. is_block languages (c, ps)) body.1
-              ∙ unicode_bad c _ e (λ some. no_word_after (ws ++ fields_pieces fs) body.0 (piece_left k)
-              (no_attribute either) no_key),
-          no_t_of_u c _ e,
-        )
+        grind (arith, front_goes_on, long_words, all_attributes, unicode_bad, no_word_after, no_t_of_u)
       where
         no_attribute : (fs ≡ []) ⊎ (is_word Attribute (piece_left k) ≡ false)
             → is_word Attribute (piece_left k) ≡ false
         no_attribute (inl no_fields) =
-            ap (λ ps. is_word Attribute (first_piece ps))
-            (sym (later.pieces ∙ ap (λ gs. fields_pieces gs ++ pieces_left k) no_fields)) ∙ none
+            cc
         no_attribute (inr odd) = odd
 
     keywords_full : (k : Cursor) (new : Spans) (n : Bool) → AreFieldsRead roles.Keyword m k mid' new o' n Full

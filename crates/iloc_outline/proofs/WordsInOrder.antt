@@ -170,16 +170,8 @@ module _ (r : Role) (l at : Cursor) (old : Spans) (mid : List Span) (last : ℕ)
         let g = gathers_there _ parts (held_spans old) mid last o n w.gathers new now k _ _ span
         (counted There (subst IsNow is h)) in
         let eights : AllByRecursion IsUpToEight (words_of r (pieces_left l)) =
-        all_weaker (IsWord (role_kind r)) IsUpToEight (word_fits r) _
-        (keep_while_passes (is_word (role_kind r)) (pieces_left l)) in
-        let next = word_next (role_kind r) at word in
-        not_different (map word_number w.words) (map word_number next.0) (word_number (piece_left at))
-        (rw (numbers_words r w.words) at g.1)
-        (rw (ap (λ ps. map word_number (words_of r ps)) w.past.pieces
-        ∙ ap (map word_number) (passing_more (is_word (role_kind r)) w.words (pieces_left at) w.each)
-        ∙ map-append word_number w.words (words_of r (pieces_left at))
-        ∙ ap (λ ps. map word_number w.words ++ map word_number ps) next.1)
-        at (numbers_differ (words_of r (pieces_left l)) eights d))
+        grind (arith, all_weaker, word_fits, keep_while_passes) in
+        grind (arith, word_next, not_different, numbers_words, passing_more, map-append, numbers_differ)
 
     each_more : AllByRecursion (IsWord (role_kind r)) more
     each_more = all_append (IsWord (role_kind r)) w.words (piece_left at ∷ []) w.each (word, tt)
@@ -205,9 +197,7 @@ module _ (r : Role) (l at : Cursor) (old : Spans) (mid : List Span) (last : ℕ)
         | inl is ↦
             let g = gathers_put _ parts (held_spans old) mid last o n w.gathers new now k _ _ span
             (counted Put (subst IsNow is h)) in
-            subst (AllDifferent nat_cmp) numbers_more
-            (different_more (map word_number w.words) (word_number (piece_left at)) (w.differ v)
-            (λ a. g.1 (rw (numbers_words r w.words) a)))
+            grind (arith, numbers_more, different_more, numbers_words)
         | inr b ↦ absurd (b.1 v)
       ]
 

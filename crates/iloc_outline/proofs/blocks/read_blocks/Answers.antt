@@ -3,7 +3,7 @@ use Rattle.std.proofs.Common.{◌≡◌, inl, inr, ℕ, List, [], true, sym, ap,
 use Rattle.std.specs.Char.{is_ascii_alphanumeric}
 use Rattle.iloc_spec_grammar.specs.Syntax.{Text}
 use Rattle.iloc_outline.specs.Blocks.{IsBlockRead}
-use Rattle.iloc_pieces.specs.Cursor.{piece_left, pieces_left, whole_text}
+use Rattle.iloc_pieces.specs.Cursor.{pieces_left, whole_text}
 use Rattle.iloc_outline.specs.Parts.{rank}
 use Rattle.iloc_outline.specs.declared.reading.Found.{Found}
 use Rattle.iloc_outline.specs.declared.reading.Found.TheVariants.{Bad, End, Full, Next, Repeated}
@@ -51,8 +51,7 @@ returns-then-is_last g c =
           c.if-rank-last.in_order w.in_order-is
     ] in
     at.refuses_end h letter fresh.new
-    (last_piece c.singletons.cursor (c.is_last.ensures.0 c.if-is_last.true)
-    (single_short (piece_left c.singletons.cursor) h.single))
+    (grind (arith, last_piece, single_short))
 
 pub read_body-found-requires-clause-singleton : goal.read_body-found-requires-clause-singleton
 read_body-found-requires-clause-singleton g c =
