@@ -1,18 +1,50 @@
 -- Fields are passed one after another, and each is put where it belongs.
-use Rattle.std.proofs.Common.{◌≡◌, ◌≢◌, ℕ, ◌-◌, ◌<◌, ◌≤◌, Bool, false, List, [], ◌∷◌, ◌++◌, length}
-use Rattle.std.proofs.Common.{map, refl, sym, ap, ◌∙◌, arith, inr, append-nil, length-append}
-use Rattle.std.proofs.Common.{Option, Some, None}
+use Rattle.std.proofs.Common.{
+  ◌≡◌,
+  ◌≢◌,
+  ℕ,
+  ◌-◌,
+  ◌<◌,
+  ◌≤◌,
+  Bool,
+  false,
+  List,
+  [],
+  ◌∷◌,
+  ◌++◌,
+  length,
+  map,
+  refl,
+  sym,
+  ap,
+  ◌∙◌,
+  arith,
+  inr,
+  append-nil,
+  length-append,
+  Option,
+  Some,
+  None,
+}
 use Rattle.std.specs.List.{AllByRecursion}
 use Rattle.std.proofs.lemmas.List.{map-append, length-map}
 use Rattle.std.proofs.lemmas.List.Concat.{flat_map-append}
-use Rattle.iloc_spec_grammar.specs.Syntax.{Text, Field, Fields, Attribute, IsWord, is_word, join}
-use Rattle.iloc_spec_grammar.specs.Syntax.{fields_pieces, first_piece}
+use Rattle.iloc_spec_grammar.specs.Syntax.{
+  Text,
+  Field,
+  Fields,
+  Attribute,
+  IsWord,
+  is_word,
+  join,
+  fields_pieces,
+  first_piece,
+}
 use Rattle.iloc_spec_grammar.proofs.ReadBack.{all_append}
 use Rattle.iloc_outline.specs.Fields.{IsAfterValues, PrintsAsItIs, IsValueRead}
 use Rattle.iloc_outline.specs.Gathering.{Gathers, Takes, pieces_in}
 use Rattle.iloc_spans.specs.Inserting.{IsPutFrom}
-use Rattle.iloc_pieces.specs.Cursor.{IsLater, IsSpanned, piece_left, pieces_left}
-use Rattle.iloc_pieces.specs.Cursor.{bytes_left, whole_text}
+use Rattle.iloc_pieces.specs.Cursor.{IsLater, IsSpanned, piece_left, pieces_left, bytes_left, whole_text}
 use Rattle.iloc_pieces.specs.Words.{IsUpToEight, word_number}
 use Rattle.iloc_outline.specs.Parts.{Part, field_part}
 use Rattle.iloc_outline.specs.Reading.{EndsInKey, IsFieldOfRole, IsTooMuch, ReadsFields, role_key, unless_end}
@@ -26,8 +58,13 @@ use Rattle.iloc_spans.specs.declared.span.Role.{Role}
 use Rattle.iloc_spans.specs.declared.span.Role.TheVariants as roles
 use Rattle.iloc_spans.specs.declared.span.Span.{Span}
 use Rattle.iloc_spans.specs.declared.spans.Spans.{Spans}
-use Rattle.iloc_outline.proofs.GatherLemmas.{gathers_few, gathers_none, gathers_put, gathers_puts}
-use Rattle.iloc_outline.proofs.GatherLemmas.{gathers_there}
+use Rattle.iloc_outline.proofs.GatherLemmas.{
+  gathers_few,
+  gathers_none,
+  gathers_put,
+  gathers_puts,
+  gathers_there,
+}
 use Rattle.iloc_pieces.proofs.CursorLemmas.{length_rest, past_none, past_past, spanned_none}
 use Rattle.iloc_outline.proofs.SpansLemmas.{field_short}
 use Rattle.iloc_spans.proofs.HeldLemmas.{length-held}

@@ -1,15 +1,32 @@
 -- Spans and the parts that they spell.
-use Rattle.std.proofs.Common.{◌≡◌, ℕ, ◌==◌, ◌||◌, true, false}
-use Rattle.std.proofs.Common.{true≢false, List, [], ◌∷◌, ◌++◌, length, map}
-use Rattle.std.proofs.Common.{take, drop, refl, sym, append_assoc, arith}
+use Rattle.std.proofs.Common.{
+  ◌≡◌,
+  ℕ,
+  ◌==◌,
+  ◌||◌,
+  true,
+  false,
+  true≢false,
+  List,
+  [],
+  ◌∷◌,
+  ◌++◌,
+  length,
+  map,
+  take,
+  drop,
+  refl,
+  sym,
+  append_assoc,
+  arith,
+}
 use Rattle.std.specs.Char.{is_ascii_alphanumeric, to_ascii_lowercase}
 use Rattle.std.specs.Int.{is_in_range}
 use Rattle.std.specs.List.{AllByRecursion, AllZip}
 use Rattle.std.specs.Ordering.{nat_cmp}
 use Rattle.std.specs.FinMap.{put}
 use Rattle.std.proofs.lemmas.Slice.Zip.{AllZip-long}
-use Rattle.iloc_spec_grammar.specs.Syntax.{Text, Field, Kind, IsWord}
-use Rattle.iloc_spec_grammar.specs.Syntax.{Bounds, IsHyphenFree}
+use Rattle.iloc_spec_grammar.specs.Syntax.{Text, Field, Kind, IsWord, Bounds, IsHyphenFree}
 use Rattle.iloc_spec_grammar.specs.Meaning.{map_of}
 use Rattle.iloc_spec_grammar.proofs.ReadBack.{word_hyphen_free}
 use Rattle.std.proofs.lemmas.Bool.Decides.{nat_tests}

@@ -1,14 +1,63 @@
 -- Which pieces may follow `u`: attributes and keys, one at least.
-use Rattle.std.proofs.Common.{◌≡◌, ◌≢◌, ◌⊎◌, inl, inr, ℕ, ◌+◌, ◌-◌, ◌<◌, Bool, true, false, List, [], ◌∷◌}
-use Rattle.std.proofs.Common.{◌++◌, length, map, refl, sym, ap, ◌∙◌, subst, arith, append-nil, length-append}
-use Rattle.std.proofs.Common.{true≢false}
+use Rattle.std.proofs.Common.{
+  ◌≡◌,
+  ◌≢◌,
+  ◌⊎◌,
+  inl,
+  inr,
+  ℕ,
+  ◌+◌,
+  ◌-◌,
+  ◌<◌,
+  Bool,
+  true,
+  false,
+  List,
+  [],
+  ◌∷◌,
+  ◌++◌,
+  length,
+  map,
+  refl,
+  sym,
+  ap,
+  ◌∙◌,
+  subst,
+  arith,
+  append-nil,
+  length-append,
+  true≢false,
+}
 use Rattle.std.specs.List.{AllByRecursion}
 use Rattle.std.specs.Char.{to_ascii_lowercase}
-use Rattle.iloc_spec_grammar.specs.Syntax.{Text, code_t, code_u, UnicodeKey, Attribute, is_word, IsWord}
-use Rattle.iloc_spec_grammar.specs.Syntax.{IsKeyword, Fields, SpelledUnicode, fields_pieces, unicode_pieces}
-use Rattle.iloc_spec_grammar.specs.Syntax.{languages, is_one_byte, is_other_singleton, front}
-use Rattle.iloc_spec_grammar.specs.Tree.{Extension, unicode, transform, other, IsBlock, IsExtension}
-use Rattle.iloc_spec_grammar.specs.Tree.{IsUnicodeBlock, extension_pieces}
+use Rattle.iloc_spec_grammar.specs.Syntax.{
+  Text,
+  code_t,
+  code_u,
+  UnicodeKey,
+  Attribute,
+  is_word,
+  IsWord,
+  IsKeyword,
+  Fields,
+  SpelledUnicode,
+  fields_pieces,
+  unicode_pieces,
+  languages,
+  is_one_byte,
+  is_other_singleton,
+  front,
+}
+use Rattle.iloc_spec_grammar.specs.Tree.{
+  Extension,
+  unicode,
+  transform,
+  other,
+  IsBlock,
+  IsExtension,
+  IsUnicodeBlock,
+  extension_pieces,
+}
 use Rattle.iloc_spec_grammar.specs.Reading.{unicode_of}
 use Rattle.iloc_spec_grammar.specs.Computing.{is_block}
 use Rattle.iloc_spec_grammar.proofs.PiecesLaws.{pieces_nonempty}
@@ -20,10 +69,26 @@ use Rattle.iloc_spec_grammar.proofs.Singletons.{no_u}
 use Rattle.iloc_spec_grammar.proofs.ValuesLaws.{all_weaker}
 use Rattle.iloc_spec_grammar.proofs.WordsLaws.{length-unicode_key}
 use Rattle.iloc_pieces.specs.Cursor.{IsPast, IsSpanned, piece_left, pieces_left, bytes_left, whole_text}
-use Rattle.iloc_outline.specs.Parts.{block_parts, field_part, in_order, rank, singleton_part, unicode_parts}
-use Rattle.iloc_outline.specs.Parts.{word_part}
-use Rattle.iloc_outline.specs.Reading.{AreFieldsRead, AreWordsRead, EndsAtBlock, IsBody, Puts, ReadsBlock}
-use Rattle.iloc_outline.specs.Reading.{ReadsFields, ReadsWords, block_span}
+use Rattle.iloc_outline.specs.Parts.{
+  block_parts,
+  field_part,
+  in_order,
+  rank,
+  singleton_part,
+  unicode_parts,
+  word_part,
+}
+use Rattle.iloc_outline.specs.Reading.{
+  AreFieldsRead,
+  AreWordsRead,
+  EndsAtBlock,
+  IsBody,
+  Puts,
+  ReadsBlock,
+  ReadsFields,
+  ReadsWords,
+  block_span,
+}
 use Rattle.iloc_spans.specs.Spans.{held_spans}
 use Rattle.iloc_pieces.specs.declared.place.Cursor.{Cursor}
 use Rattle.iloc_outline.specs.declared.reading.Found.{Found}
@@ -31,8 +96,15 @@ use Rattle.iloc_outline.specs.declared.reading.Found.TheVariants.{End, Next, Bad
 use Rattle.iloc_spans.specs.declared.span.Role.TheVariants as roles
 use Rattle.iloc_spans.specs.declared.spans.Spans.{Spans}
 use Rattle.iloc_pieces.proofs.CursorLemmas.{past_past}
-use Rattle.iloc_outline.proofs.BodyLemmas.{front_ends, front_goes_on, front_single, front_whole}
-use Rattle.iloc_outline.proofs.BodyLemmas.{puts_singleton, puts_then, some_passed}
+use Rattle.iloc_outline.proofs.BodyLemmas.{
+  front_ends,
+  front_goes_on,
+  front_single,
+  front_whole,
+  puts_singleton,
+  puts_then,
+  some_passed,
+}
 
 -- an attribute or a key
 abbrev pub IsUnicodeWord : Text → Type 0

@@ -10,14 +10,19 @@ use Rattle.iloc_spec_grammar.specs.Values.{spelled_value}
 use Rattle.iloc_spec_grammar.proofs.MapLaws.{same_is}
 use Rattle.iloc_spec_grammar.proofs.ReadBack.{all_append}
 use Rattle.iloc_outline.specs.Fields.{PrintsAsItIs, IsValueRead}
-use Rattle.iloc_pieces.specs.Cursor.{IsLater, IsNextPiece, IsPast, IsShortPiece}
-use Rattle.iloc_pieces.specs.Cursor.{piece_left}
+use Rattle.iloc_pieces.specs.Cursor.{IsLater, IsNextPiece, IsPast, IsShortPiece, piece_left}
 use Rattle.iloc_outline.specs.Reading.{IsOfField}
 use Rattle.iloc_pieces.specs.declared.place.Cursor.{Cursor}
 use Rattle.iloc_spans.specs.declared.span.Role.{Role}
 use Rattle.iloc_spans.specs.declared.span.Role.TheVariants as roles
-use Rattle.iloc_pieces.proofs.CursorLemmas.{last_piece, past_next, past_none, pieces_end, short_attribute}
-use Rattle.iloc_pieces.proofs.CursorLemmas.{spanned_end}
+use Rattle.iloc_pieces.proofs.CursorLemmas.{
+  last_piece,
+  past_next,
+  past_none,
+  pieces_end,
+  short_attribute,
+  spanned_end,
+}
 
 -- ---- printing
 

@@ -1,7 +1,30 @@
 -- Words are passed one after another, and each is put where it belongs.
-use Rattle.std.proofs.Common.{◌≡◌, ◌⊎◌, ◌≤◌, ℕ, Bool, true, false, ◌||◌, List, [], ◌∷◌, ◌++◌, length, map}
-use Rattle.std.proofs.Common.{sym, ap}
-use Rattle.std.proofs.Common.{◌∙◌, refl, subst, arith, inl, inr, length-append, true≢false}
+use Rattle.std.proofs.Common.{
+  ◌≡◌,
+  ◌⊎◌,
+  ◌≤◌,
+  ℕ,
+  Bool,
+  true,
+  false,
+  ◌||◌,
+  List,
+  [],
+  ◌∷◌,
+  ◌++◌,
+  length,
+  map,
+  sym,
+  ap,
+  ◌∙◌,
+  refl,
+  subst,
+  arith,
+  inl,
+  inr,
+  length-append,
+  true≢false,
+}
 use Rattle.std.specs.List.{AllByRecursion, list_any}
 use Rattle.std.specs.Ordering.{nat_cmp, eq_by_cmp, is_eq}
 use Rattle.std.proofs.lemmas.Bool.{or_cases, or_left, or_right}
@@ -14,8 +37,7 @@ use Rattle.iloc_spec_grammar.proofs.ReadingLaws.{keep_all, keep_while_passes}
 use Rattle.iloc_spec_grammar.proofs.ValuesLaws.{all_weaker}
 use Rattle.iloc_outline.specs.Gathering.{Gathers, Walks, pieces_in}
 use Rattle.iloc_spans.specs.Inserting.{IsPutFrom}
-use Rattle.iloc_pieces.specs.Cursor.{IsLater, IsNextPiece, piece_left, pieces_left}
-use Rattle.iloc_pieces.specs.Cursor.{whole_text}
+use Rattle.iloc_pieces.specs.Cursor.{IsLater, IsNextPiece, piece_left, pieces_left, whole_text}
 use Rattle.iloc_pieces.specs.Words.{IsUpToEight, word_number}
 use Rattle.iloc_outline.specs.Parts.{Part, word_part}
 use Rattle.iloc_outline.specs.Reading.{IsOfWord, IsTooMuch, MayBe, ReadsWords, role_kind, words_of}
@@ -28,13 +50,26 @@ use Rattle.iloc_spans.specs.declared.span.Role.{Role}
 use Rattle.iloc_spans.specs.declared.span.Role.TheVariants as roles
 use Rattle.iloc_spans.specs.declared.span.Span.{Span}
 use Rattle.iloc_spans.specs.declared.spans.Spans.{Spans}
-use Rattle.iloc_outline.proofs.GatherLemmas.{gathers_few, gathers_none, gathers_put, gathers_puts}
-use Rattle.iloc_outline.proofs.GatherLemmas.{gathers_there}
+use Rattle.iloc_outline.proofs.GatherLemmas.{
+  gathers_few,
+  gathers_none,
+  gathers_put,
+  gathers_puts,
+  gathers_there,
+}
 use Rattle.iloc_pieces.proofs.CursorLemmas.{last_piece, past_next, past_none, pieces_end}
 use Rattle.iloc_outline.proofs.RoleLemmas.{short_kind}
 use Rattle.iloc_spans.proofs.HeldLemmas.{length-held}
-use Rattle.iloc_outline.proofs.WordLemmas.{ends_before, length-pieces_of, passing_cut, passing_more, span_of}
-use Rattle.iloc_outline.proofs.WordLemmas.{word_fits, word_next, word_span}
+use Rattle.iloc_outline.proofs.WordLemmas.{
+  ends_before,
+  length-pieces_of,
+  passing_cut,
+  passing_more,
+  span_of,
+  word_fits,
+  word_next,
+  word_span,
+}
 use Rattle.iloc_pieces.proofs.WordOrder.{word_order}
 
 -- ---- words differ where their numbers do

@@ -1,16 +1,28 @@
 -- Blocks that break their rule before anything is kept of them.
-use Rattle.std.proofs.Common.{◌≡◌, ℕ, Bool, true, false, List, [], ◌∷◌, refl, sym, ap}
-use Rattle.std.proofs.Common.{◌∙◌, arith, true≢false}
+use Rattle.std.proofs.Common.{◌≡◌, ℕ, Bool, true, false, List, [], ◌∷◌, refl, sym, ap, ◌∙◌, arith, true≢false}
 use Rattle.std.specs.List.{AllByRecursion}
 use Rattle.std.proofs.lemmas.Bool.{and_parts, false_from_ne_true, not-true}
-use Rattle.iloc_spec_grammar.specs.Syntax.{LanguageLengths, Block, code_u, code_t, Text, Language}
-use Rattle.iloc_spec_grammar.specs.Syntax.{UnicodeKey, TransformKey, Attribute, is_word, IsWord}
-use Rattle.iloc_spec_grammar.specs.Syntax.{kept, lower_singleton, is_other_singleton, first_piece}
+use Rattle.iloc_spec_grammar.specs.Syntax.{
+  LanguageLengths,
+  Block,
+  code_u,
+  code_t,
+  Text,
+  Language,
+  UnicodeKey,
+  TransformKey,
+  Attribute,
+  is_word,
+  IsWord,
+  kept,
+  lower_singleton,
+  is_other_singleton,
+  first_piece,
+}
 use Rattle.iloc_spec_grammar.specs.Reading.{is_two, rest_of}
 use Rattle.iloc_spec_grammar.proofs.Readings.{language_no_key, not_two}
 use Rattle.iloc_spec_grammar.proofs.Singletons.{no_u, no_t, no_x}
-use Rattle.iloc_spec_parts.specs.Fronts.{is_bad_key}
-use Rattle.iloc_spec_parts.specs.Fronts.{has_other_length, other_front, keywords_kept}
+use Rattle.iloc_spec_parts.specs.Fronts.{is_bad_key, has_other_length, other_front, keywords_kept}
 use Rattle.iloc_spec_parts.specs.Inline.{IsShortUnicode, IsShortTransform, IsShortOther, IsShortBlock}
 
 -- after `u`

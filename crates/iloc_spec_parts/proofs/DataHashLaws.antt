@@ -3,8 +3,15 @@ use Rattle.std.proofs.Common.{◌≡◌, ◌↔◌, ℕ, ◌^◌, ◌<◌, ◌�
 use Rattle.std.proofs.Common.{refl, ap, arith, length-append}
 use Rattle.std.specs.Hash.{HashWrites, option}
 use Rattle.iloc_spec_parts.specs.Hashes.{HashesByOrder}
-use Rattle.iloc_spec_parts.proofs.HashLaws.{Tells, word_few, word_tells, both_tell, option_tells, through}
-use Rattle.iloc_spec_parts.proofs.HashLaws.{hashes_by}
+use Rattle.iloc_spec_parts.proofs.HashLaws.{
+  Tells,
+  word_few,
+  word_tells,
+  both_tell,
+  option_tells,
+  through,
+  hashes_by,
+}
 use Rattle.iloc_spec_parts.specs.Subdivisions.{Subdivision}
 use Rattle.iloc_spec_parts.specs.DataLocales.{DataLocale, DataKey, data_key}
 use Rattle.iloc_spec_parts.specs.DataOrders.{subdivision_cmp}

@@ -1,38 +1,100 @@
 -- Data locales: reading and printing.
-use Rattle.std.proofs.Common.{◌≡◌, ◌≤◌, ◌⊎◌, ℕ, Bool, true, false, cond, List, ◌∷◌, ◌++◌, length, refl}
-use Rattle.std.proofs.Common.{sym, ap, ◌∙◌, arith, Option, Some, None, IfSome, MatchResult, Result, Ok}
-use Rattle.std.proofs.Common.{Err, ok_or, option_map, option_and_then, option_to_list, append_assoc}
-use Rattle.std.proofs.Common.{append-nil}
+use Rattle.std.proofs.Common.{
+  ◌≡◌,
+  ◌≤◌,
+  ◌⊎◌,
+  ℕ,
+  Bool,
+  true,
+  false,
+  cond,
+  List,
+  ◌∷◌,
+  ◌++◌,
+  length,
+  refl,
+  sym,
+  ap,
+  ◌∙◌,
+  arith,
+  Option,
+  Some,
+  None,
+  IfSome,
+  MatchResult,
+  Result,
+  Ok,
+  Err,
+  ok_or,
+  option_map,
+  option_and_then,
+  option_to_list,
+  append_assoc,
+  append-nil,
+}
 use Rattle.std.specs.Result.{result_ok}
 use Rattle.std.proofs.lemmas.Bool.{cond_both}
 use Rattle.std.proofs.lemmas.Bool.Decides.{nat_tests}
-use Rattle.iloc_spec_grammar.specs.Syntax.{Text, Region, Subtag, UnicodeKey, Attribute}
-use Rattle.iloc_spec_grammar.specs.Syntax.{SubdivisionSuffix}
-use Rattle.iloc_spec_grammar.specs.Syntax.{is_word, IsWord, AreLengths, lower, is_same, is_true}
+use Rattle.iloc_spec_grammar.specs.Syntax.{
+  Text,
+  Region,
+  Subtag,
+  UnicodeKey,
+  Attribute,
+  SubdivisionSuffix,
+  is_word,
+  IsWord,
+  AreLengths,
+  lower,
+  is_same,
+  is_true,
+}
 use Rattle.iloc_spec_grammar.specs.Meaning.{Locale, Fault, InvalidExtension}
 use Rattle.iloc_spec_grammar.specs.Values.{IsNormal, IsValue, IsWellFormed, extensions_spelling, text}
 use Rattle.iloc_spec_grammar.proofs.MapLaws.{same_itself, same_is}
 use Rattle.iloc_spec_grammar.proofs.WordsLaws.{is_word-lower, lower-lower}
 use Rattle.iloc_spec_grammar.proofs.Corollaries.{same_text_same_value}
-use Rattle.iloc_spec_parts.specs.Small.{SmallIdentifier, SmallLocale}
-use Rattle.iloc_spec_parts.specs.Small.{IsSmall, HasSmallFault, IsSmallValue}
+use Rattle.iloc_spec_parts.specs.Small.{SmallIdentifier, SmallLocale, IsSmall, HasSmallFault, IsSmallValue}
 use Rattle.iloc_spec_grammar.specs.Reading.{first_item}
-use Rattle.iloc_spec_parts.specs.Subdivisions.{Subdivision, subdivision, subdivision_text}
-use Rattle.iloc_spec_parts.specs.Subdivisions.{IsSubdivision}
+use Rattle.iloc_spec_parts.specs.Subdivisions.{Subdivision, subdivision, subdivision_text, IsSubdivision}
 use Rattle.iloc_spec_parts.specs.DataComputing.{data_of_result, data_result}
-use Rattle.iloc_spec_parts.specs.DataLocales.{DataLocale, IsDataLocale, whole, whole_region, is_whole}
-use Rattle.iloc_spec_parts.specs.DataLocales.{named_subdivision, made_of, agreed, small_part}
-use Rattle.iloc_spec_parts.specs.DataLocales.{data_of_small, DataMeans, HasDataFault, not_small}
-use Rattle.iloc_spec_parts.specs.DataLocales.{no_subdivision, subdivision_value, subdivision_keyword}
-use Rattle.iloc_spec_parts.specs.DataLocales.{data_text, small_of_data}
-use Rattle.iloc_spec_parts.specs.DataLocales.{locale_of_data}
+use Rattle.iloc_spec_parts.specs.DataLocales.{
+  DataLocale,
+  IsDataLocale,
+  whole,
+  whole_region,
+  is_whole,
+  named_subdivision,
+  made_of,
+  agreed,
+  small_part,
+  data_of_small,
+  DataMeans,
+  HasDataFault,
+  not_small,
+  no_subdivision,
+  subdivision_value,
+  subdivision_keyword,
+  data_text,
+  small_of_data,
+  locale_of_data,
+}
 use Rattle.iloc_spec_parts.proofs.Keys.{sd}
 use Rattle.iloc_spec_parts.proofs.SmallLaws.{one_small, small_answer, small_apart, one_small_fault, by_result}
 use Rattle.iloc_spec_parts.specs.SmallComputing.{small_result}
-use Rattle.iloc_spec_parts.proofs.SmallBack.{small_back, small_is_value, small_is_well_formed}
-use Rattle.iloc_spec_parts.proofs.SmallBack.{read_is_small_value}
-use Rattle.iloc_spec_parts.proofs.SubdivisionLaws.{subdivision_back, subdivision_is_subtag}
-use Rattle.iloc_spec_parts.proofs.SubdivisionLaws.{read_is_subdivision, text_of_read, read_is_long}
+use Rattle.iloc_spec_parts.proofs.SmallBack.{
+  small_back,
+  small_is_value,
+  small_is_well_formed,
+  read_is_small_value,
+}
+use Rattle.iloc_spec_parts.proofs.SubdivisionLaws.{
+  subdivision_back,
+  subdivision_is_subtag,
+  read_is_subdivision,
+  text_of_read,
+  read_is_long,
+}
 
 -- what is read of a text
 

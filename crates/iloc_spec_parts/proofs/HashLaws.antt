@@ -4,20 +4,29 @@ use Rattle.std.proofs.Common.{◌≡◌, ℕ, zero, suc, ◌^◌, ◌<◌, ◌�
 use Rattle.std.proofs.Common.{refl, sym, ap, ◌∙◌, Bool, true, false, replicate}
 use Rattle.std.proofs.Common.{Option, Some, None, append_assoc, length-append, arith, if◌then◌else◌}
 use Rattle.std.specs.Prelude.{nat_lt}
-use Rattle.std.specs.List.{list_all}
+use Rattle.std.specs.List.{list_all, flat_map}
 use Rattle.std.proofs.lemmas.List.{length-replicate}
 use Rattle.std.proofs.lemmas.Bool.Decides.{nat_tests}
 use Rattle.std.proofs.lemmas.Nat.{from_le_bytes-to_le_bytes_8}
-use Rattle.std.specs.List.{flat_map}
 use Rattle.std.specs.Hash.{HashWrites, u8, slice, option, le_bytes}
 use Rattle.std.specs.declared.cmp.Ordering.{Ordering}
 use Rattle.std.proofs.lemmas.Bool.{and_parts}
 use Rattle.iloc_spec_grammar.specs.Syntax.{Block, Text, Identifier, Fields, Unicode, Transform, before_zero}
 use Rattle.iloc_spec_grammar.specs.Meaning.{Extensions}
 use Rattle.iloc_spec_parts.specs.Orders.{IsExactOrder}
-use Rattle.iloc_spec_parts.specs.Hashes.{HashesByOrder, is_short_text, word_fed, words_fed, identifier_fed}
-use Rattle.iloc_spec_parts.specs.Hashes.{fields_fed}
-use Rattle.iloc_spec_parts.specs.Hashes.{unicode_fed, transform_fed, other_fed, extensions_fed, locale_fed}
+use Rattle.iloc_spec_parts.specs.Hashes.{
+  HashesByOrder,
+  is_short_text,
+  word_fed,
+  words_fed,
+  identifier_fed,
+  fields_fed,
+  unicode_fed,
+  transform_fed,
+  other_fed,
+  extensions_fed,
+  locale_fed,
+}
 
 -- A value that makes fewer writes than 2 ^ 64 is told by them, whatever follows, and so is what follows
 pub record Tells {X : Type 0} (fed : X → HashWrites) : Type 0 where

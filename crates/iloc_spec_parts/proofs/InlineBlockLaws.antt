@@ -1,31 +1,96 @@
 -- Each block of an inline text has few words.
-use Rattle.std.proofs.Common.{◌≡◌, ℕ, ◌≤◌, Bool, true, false, cond, ◌==◌, List, [], ◌∷◌, ◌++◌, length, map}
-use Rattle.std.proofs.Common.{filter, refl, sym, ap, ◌∙◌, arith, Option, Some, None, IfSome}
-use Rattle.std.proofs.Common.{option_map, true≢false, append-nil}
+use Rattle.std.proofs.Common.{
+  ◌≡◌,
+  ℕ,
+  ◌≤◌,
+  Bool,
+  true,
+  false,
+  cond,
+  ◌==◌,
+  List,
+  [],
+  ◌∷◌,
+  ◌++◌,
+  length,
+  map,
+  filter,
+  refl,
+  sym,
+  ap,
+  ◌∙◌,
+  arith,
+  Option,
+  Some,
+  None,
+  IfSome,
+  option_map,
+  true≢false,
+  append-nil,
+}
 use Rattle.std.specs.List.{AllByRecursion, list_any}
 use Rattle.std.specs.Ordering.{nat_cmp, eq_by_cmp}
 use Rattle.std.proofs.lemmas.Bool.{or_parts, eq-eqb, false_from_ne_true}
 use Rattle.std.proofs.lemmas.Bool.Decides.{nat_tests}
 use Rattle.std.proofs.lemmas.List.{length-map}
-use Rattle.iloc_spec_grammar.specs.Syntax.{LanguageLengths, Block, code_x, code_u, code_t, Text, pieces}
-use Rattle.iloc_spec_grammar.specs.Syntax.{AreLengths, PrivateSubtag, is_word, lower, word_cmp}
-use Rattle.iloc_spec_grammar.specs.Syntax.{Spelled, SpelledIdentifier, SpelledUnicode, SpelledTransform}
-use Rattle.iloc_spec_grammar.specs.Syntax.{Transform, Fields, identifier_pieces, fields_pieces}
-use Rattle.iloc_spec_grammar.specs.Syntax.{unicode_pieces, transform_pieces, IsIdentifier, IsUnicode}
-use Rattle.iloc_spec_grammar.specs.Syntax.{AllDifferent, is_other_singleton, lower_singleton, head}
-use Rattle.iloc_spec_grammar.specs.Syntax.{tail_blocks}
-use Rattle.iloc_spec_grammar.specs.Meaning.{normal_identifier, normal_values}
-use Rattle.iloc_spec_grammar.specs.Meaning.{normal_unicode, normal_transform, after}
+use Rattle.iloc_spec_grammar.specs.Syntax.{
+  LanguageLengths,
+  Block,
+  code_x,
+  code_u,
+  code_t,
+  Text,
+  pieces,
+  AreLengths,
+  PrivateSubtag,
+  is_word,
+  lower,
+  word_cmp,
+  Spelled,
+  SpelledIdentifier,
+  SpelledUnicode,
+  SpelledTransform,
+  Transform,
+  Fields,
+  identifier_pieces,
+  fields_pieces,
+  unicode_pieces,
+  transform_pieces,
+  IsIdentifier,
+  IsUnicode,
+  AllDifferent,
+  is_other_singleton,
+  lower_singleton,
+  head,
+  tail_blocks,
+}
+use Rattle.iloc_spec_grammar.specs.Meaning.{
+  normal_identifier,
+  normal_values,
+  normal_unicode,
+  normal_transform,
+  after,
+}
 use Rattle.iloc_spec_grammar.specs.Reading.{passing, IdentifierFront}
 use Rattle.iloc_spec_grammar.proofs.IdentifierLaws.{one_identifier}
 use Rattle.iloc_spec_grammar.proofs.SetLaws.{length-set_of-different}
-use Rattle.iloc_spec_parts.specs.Inline.{IsInline, IsShortUnicode, IsShortTransform, IsShortBlock}
-use Rattle.iloc_spec_parts.specs.Inline.{IsInlineByBlocks, ReachesLongBlock}
+use Rattle.iloc_spec_parts.specs.Inline.{
+  IsInline,
+  IsShortUnicode,
+  IsShortTransform,
+  IsShortBlock,
+  IsInlineByBlocks,
+  ReachesLongBlock,
+}
 use Rattle.iloc_spec_parts.specs.Fronts.{FrontRead, absent, present, fields_front, before_bad_key}
 use Rattle.iloc_spec_parts.proofs.FrontLaws.{unicode_taken, keywords_taken}
 use Rattle.iloc_spec_parts.proofs.KeptLaws.{kept_all, passing_short, some_fields}
-use Rattle.iloc_spec_parts.proofs.ShortFronts.{IsShortByFronts, short_by_fronts, short_unicode_front}
-use Rattle.iloc_spec_parts.proofs.ShortFronts.{none_first}
+use Rattle.iloc_spec_parts.proofs.ShortFronts.{
+  IsShortByFronts,
+  short_by_fronts,
+  short_unicode_front,
+  none_first,
+}
 use Rattle.iloc_spec_parts.proofs.SmallShapes.{no_normal_fields}
 use Rattle.iloc_spec_parts.proofs.TransformLaws.{one_front, one_longest, front_language, transform_spelled}
 use Rattle.iloc_spec_grammar.proofs.SameMeaning.{none_after}

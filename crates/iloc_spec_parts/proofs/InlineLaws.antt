@@ -7,16 +7,56 @@ use Rattle.std.specs.Cmp.{nat_cmp_total}
 use Rattle.std.specs.Ordering.{nat_cmp}
 use Rattle.std.proofs.lemmas.Bool.{eqb-true, leb-true, le-leb, false_from_ne_true}
 use Rattle.std.proofs.lemmas.List.{length-map}
-use Rattle.iloc_spec_grammar.specs.Syntax.{LanguageLengths, Field, Block, code_x, code_u, Text, pieces, lower}
-use Rattle.iloc_spec_grammar.specs.Syntax.{SpelledIdentifier, SpelledUnicode, Fields}
-use Rattle.iloc_spec_grammar.specs.Syntax.{unicode_pieces, IsUnicode, kept, AllDifferent, AreLengths, head}
-use Rattle.iloc_spec_grammar.specs.Syntax.{tail_blocks, lower_singleton, IsPrivate}
-use Rattle.iloc_spec_grammar.specs.Tree.{Extension, unicode, transform, other, Written, IsWritten}
-use Rattle.iloc_spec_grammar.specs.Tree.{IsExtension, spelling, extension_pieces, extension_block, blocks_of}
-use Rattle.iloc_spec_grammar.specs.Tree.{meaning}
-use Rattle.iloc_spec_grammar.specs.Meaning.{Locale, SpelledExtensions, Extensions, Means, IdentifierMeans}
-use Rattle.iloc_spec_grammar.specs.Meaning.{SpellsExtensions, normal_identifier, normal_values, normal_fields}
-use Rattle.iloc_spec_grammar.specs.Meaning.{normal_extensions, after, Fault}
+use Rattle.iloc_spec_grammar.specs.Syntax.{
+  LanguageLengths,
+  Field,
+  Block,
+  code_x,
+  code_u,
+  Text,
+  pieces,
+  lower,
+  SpelledIdentifier,
+  SpelledUnicode,
+  Fields,
+  unicode_pieces,
+  IsUnicode,
+  kept,
+  AllDifferent,
+  AreLengths,
+  head,
+  tail_blocks,
+  lower_singleton,
+  IsPrivate,
+}
+use Rattle.iloc_spec_grammar.specs.Tree.{
+  Extension,
+  unicode,
+  transform,
+  other,
+  Written,
+  IsWritten,
+  IsExtension,
+  spelling,
+  extension_pieces,
+  extension_block,
+  blocks_of,
+  meaning,
+}
+use Rattle.iloc_spec_grammar.specs.Meaning.{
+  Locale,
+  SpelledExtensions,
+  Extensions,
+  Means,
+  IdentifierMeans,
+  SpellsExtensions,
+  normal_identifier,
+  normal_values,
+  normal_fields,
+  normal_extensions,
+  after,
+  Fault,
+}
 use Rattle.iloc_spec_grammar.specs.Reading.{written_of, fields_from, is_two}
 use Rattle.iloc_spec_grammar.specs.Computing.{locale_result}
 use Rattle.iloc_spec_grammar.proofs.RuleTests.{Tests, tests_and, tests_all, tests_if_some}

@@ -1,7 +1,5 @@
 -- The orders are total, and only equal values tie.
-use Rattle.std.proofs.Common.{arith}
-use Rattle.std.proofs.Common.{◌≡◌, ℕ, zero, suc, List, refl, ap, Option}
-use Rattle.std.proofs.Common.{Some, None}
+use Rattle.std.proofs.Common.{arith, ◌≡◌, ℕ, zero, suc, List, refl, ap, Option, Some, None}
 use Rattle.std.specs.Ordering.{nat_cmp, on}
 use Rattle.std.specs.Option.{option_cmp}
 use Rattle.std.specs.declared.cmp.Ordering.{Ordering}
@@ -11,10 +9,26 @@ use Rattle.std.specs.FinMap.{IsAntisymmetric, nat_cmp-IsAntisymmetric, slice_cmp
 use Rattle.std.proofs.lemmas.Map.Lookups.{exact_pairs}
 use Rattle.iloc_spec_grammar.specs.Syntax.{Block, Text, word_cmp, Identifier, Fields, Unicode, Transform}
 use Rattle.iloc_spec_grammar.specs.Meaning.{Extensions}
-use Rattle.iloc_spec_parts.specs.Orders.{IsExactOrder, pair_cmp, words_cmp, identifier_cmp, keywords_cmp}
-use Rattle.iloc_spec_parts.specs.Orders.{fields_cmp, unicode_cmp, transform_cmp, other_cmp, extensions_cmp}
-use Rattle.iloc_spec_parts.specs.Orders.{locale_cmp, ExtensionKind, OfTransform, OfUnicode, OfPrivate}
-use Rattle.iloc_spec_parts.specs.Orders.{OfOther, place_of_kind, kind_cmp}
+use Rattle.iloc_spec_parts.specs.Orders.{
+  IsExactOrder,
+  pair_cmp,
+  words_cmp,
+  identifier_cmp,
+  keywords_cmp,
+  fields_cmp,
+  unicode_cmp,
+  transform_cmp,
+  other_cmp,
+  extensions_cmp,
+  locale_cmp,
+  ExtensionKind,
+  OfTransform,
+  OfUnicode,
+  OfPrivate,
+  OfOther,
+  place_of_kind,
+  kind_cmp,
+}
 use Rattle.iloc_spec_grammar.specs.ShortLists.{short_cmp}
 
 -- orders of parts

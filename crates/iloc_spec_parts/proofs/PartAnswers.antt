@@ -1,6 +1,5 @@
 -- The program reads a part where its reader does, and finds its fault.
-use Rattle.std.proofs.Common.{arith}
-use Rattle.std.proofs.Common.{◌≡◌, ℕ, Bool, true, List, [], ◌∷◌, refl, Result, Ok, Err, MatchResult}
+use Rattle.std.proofs.Common.{arith, ◌≡◌, ℕ, Bool, true, List, [], ◌∷◌, refl, Result, Ok, Err, MatchResult}
 use Rattle.std.specs.Char.{to_ascii_lowercase}
 use Rattle.iloc_spec_grammar.specs.Meaning.{Fault}
 use Rattle.std.proofs.lemmas.Bool.{cond_both}

@@ -1,6 +1,5 @@
 -- Parts with their singletons.
-use Rattle.std.proofs.Common.{arith}
-use Rattle.std.proofs.Common.{◌≡◌, ℕ, Bool, List, refl, sym, ◌∙◌, true≢false, Result}
+use Rattle.std.proofs.Common.{arith, ◌≡◌, ℕ, Bool, List, refl, sym, ◌∙◌, true≢false, Result}
 use Rattle.iloc_spec_grammar.specs.Meaning.{Fault}
 use Rattle.iloc_spec_parts.specs.Readers.{IsReader}
 use Rattle.iloc_spec_parts.specs.PartComputing.{part_result}

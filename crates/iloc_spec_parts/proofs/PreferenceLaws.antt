@@ -6,30 +6,61 @@ use Rattle.std.specs.Option.{option_or}
 use Rattle.std.specs.Result.{result_ok}
 use Rattle.std.specs.List.{AllByRecursion}
 use Rattle.std.specs.FinMap.{find, is_sorted}
-use Rattle.iloc_spec_grammar.specs.Syntax.{Field, Text, AreLengths, Subtag, UnicodeKey}
-use Rattle.iloc_spec_grammar.specs.Syntax.{word_cmp, is_same}
-use Rattle.iloc_spec_grammar.specs.Syntax.{is_word, lower, is_true}
+use Rattle.iloc_spec_grammar.specs.Syntax.{
+  Field,
+  Text,
+  AreLengths,
+  Subtag,
+  UnicodeKey,
+  word_cmp,
+  is_same,
+  is_word,
+  lower,
+  is_true,
+}
 use Rattle.iloc_spec_grammar.specs.Meaning.{Locale}
 use Rattle.iloc_spec_grammar.specs.Values.{IsNormal, IsValue, IsWellFormed}
 use Rattle.iloc_spec_grammar.proofs.ValuesLaws.{all_weaker}
 use Rattle.iloc_spec_grammar.proofs.Corollaries.{well_formed_value}
 use Rattle.iloc_spec_grammar.proofs.WordsLaws.{length-lower, length-region}
-use Rattle.iloc_spec_parts.specs.Subdivisions.{Subdivision, IsSubdivision, subdivision}
-use Rattle.iloc_spec_parts.specs.Subdivisions.{subdivision_text}
+use Rattle.iloc_spec_parts.specs.Subdivisions.{Subdivision, IsSubdivision, subdivision, subdivision_text}
 use Rattle.iloc_spec_parts.specs.DataLocales.{whole_region, is_whole, whole}
 use Rattle.iloc_spec_parts.specs.Keywords.{subdivision_reads, subdivision_gives}
 use Rattle.std.proofs.lemmas.Bool.{and_parts, and_from, false_from_ne_true, cond_both}
-use Rattle.iloc_spec_parts.specs.Preferences.{is_strict, same_region, Preferences, IsPreferences}
-use Rattle.iloc_spec_parts.specs.Preferences.{SpellsNoTrue, und, default_preferences}
-use Rattle.iloc_spec_parts.specs.Preferences.{preferred_region, preferences, merge_language}
-use Rattle.iloc_spec_parts.specs.Preferences.{merge_region, merge, sd_entry, rg_entry}
-use Rattle.iloc_spec_parts.specs.Preferences.{locale_of_preferences}
-use Rattle.iloc_spec_parts.specs.Formatters.{FormatPreferences, TimePreferences, plain_time}
-use Rattle.iloc_spec_parts.specs.Formatters.{plain_format, merge_time, merge_format}
+use Rattle.iloc_spec_parts.specs.Preferences.{
+  is_strict,
+  same_region,
+  Preferences,
+  IsPreferences,
+  SpellsNoTrue,
+  und,
+  default_preferences,
+  preferred_region,
+  preferences,
+  merge_language,
+  merge_region,
+  merge,
+  sd_entry,
+  rg_entry,
+  locale_of_preferences,
+}
+use Rattle.iloc_spec_parts.specs.Formatters.{
+  FormatPreferences,
+  TimePreferences,
+  plain_time,
+  plain_format,
+  merge_time,
+  merge_format,
+}
 use Rattle.iloc_spec_parts.proofs.Keys.{sd, rg}
 use Rattle.iloc_spec_parts.proofs.SmallLaws.{first-option}
-use Rattle.iloc_spec_parts.proofs.SubdivisionLaws.{subdivision_back, subdivision_is_subtag}
-use Rattle.iloc_spec_parts.proofs.SubdivisionLaws.{text_of_read, read_is_long, read_is_subdivision}
+use Rattle.iloc_spec_parts.proofs.SubdivisionLaws.{
+  subdivision_back,
+  subdivision_is_subtag,
+  text_of_read,
+  read_is_long,
+  read_is_subdivision,
+}
 use Rattle.iloc_spec_parts.proofs.DataLaws.{sd_key, whole_region_is}
 use Rattle.iloc_spec_parts.proofs.SmallBack.{one_normal, one_ascends}
 use Rattle.iloc_spec_grammar.proofs.MapLaws.{same_itself, same_is}

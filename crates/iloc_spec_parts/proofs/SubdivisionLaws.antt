@@ -1,7 +1,29 @@
 -- A subdivision's text is read as it, and what is read has the text in lower case.
-use Rattle.std.proofs.Common.{◌≡◌, ◌≤◌, true, ◌&&◌, ◌==◌, [], ◌∷◌, ◌++◌, length, take-append-drop}
-use Rattle.std.proofs.Common.{length-append, sym, ap, ap₂, ◌∙◌, arith, Some, Ok, ok_or}
-use Rattle.std.proofs.Common.{inl, inr, true≢false, MatchResult}
+use Rattle.std.proofs.Common.{
+  ◌≡◌,
+  ◌≤◌,
+  true,
+  ◌&&◌,
+  ◌==◌,
+  [],
+  ◌∷◌,
+  ◌++◌,
+  length,
+  take-append-drop,
+  length-append,
+  sym,
+  ap,
+  ap₂,
+  ◌∙◌,
+  arith,
+  Some,
+  Ok,
+  ok_or,
+  inl,
+  inr,
+  true≢false,
+  MatchResult,
+}
 use Rattle.std.specs.List.{list_all}
 use Rattle.std.specs.Char.{is_ascii_alphanumeric}
 use Rattle.std.proofs.lemmas.Bool.{and_parts, and_from, or_cases, eqb-true, cond_both}
@@ -9,15 +31,41 @@ use Rattle.std.proofs.lemmas.List.Folds.{list_all-append}
 use Rattle.std.proofs.Math.Seq.{take-append_seam, drop-append_seam}
 use Rattle.std.proofs.lemmas.Bool.Decides.{nat_tests}
 use Rattle.std.proofs.lemmas.List.{map-append}
-use Rattle.iloc_spec_grammar.specs.Syntax.{Text, Region, Subtag, SubdivisionSuffix, is_word, IsWord, word}
-use Rattle.iloc_spec_grammar.specs.Syntax.{lower}
-use Rattle.iloc_spec_grammar.specs.Syntax.{upper, letters, digits}
+use Rattle.iloc_spec_grammar.specs.Syntax.{
+  Text,
+  Region,
+  Subtag,
+  SubdivisionSuffix,
+  is_word,
+  IsWord,
+  word,
+  lower,
+  upper,
+  letters,
+  digits,
+}
 use Rattle.iloc_spec_grammar.specs.Meaning.{InvalidExtension}
-use Rattle.iloc_spec_grammar.proofs.WordsLaws.{is_word-lower, is_word-normal, normal-normal, lower-lower}
-use Rattle.iloc_spec_grammar.proofs.WordsLaws.{lower-upper, upper-lower, length-region, every, letter_is}
-use Rattle.iloc_spec_grammar.proofs.WordsLaws.{digit_is, digit_no_letter}
-use Rattle.iloc_spec_parts.specs.Subdivisions.{Subdivision, IsSubdivision, region_length, both_words}
-use Rattle.iloc_spec_parts.specs.Subdivisions.{subdivision, subdivision_text}
+use Rattle.iloc_spec_grammar.proofs.WordsLaws.{
+  is_word-lower,
+  is_word-normal,
+  normal-normal,
+  lower-lower,
+  lower-upper,
+  upper-lower,
+  length-region,
+  every,
+  letter_is,
+  digit_is,
+  digit_no_letter,
+}
+use Rattle.iloc_spec_parts.specs.Subdivisions.{
+  Subdivision,
+  IsSubdivision,
+  region_length,
+  both_words,
+  subdivision,
+  subdivision_text,
+}
 
 -- regions
 

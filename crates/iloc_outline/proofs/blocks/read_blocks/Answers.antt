@@ -1,5 +1,4 @@
-use Rattle.std.proofs.Common.{arith}
-use Rattle.std.proofs.Common.{◌≡◌, inl, inr, ℕ, List, [], true, sym, ap, ◌∙◌, subst}
+use Rattle.std.proofs.Common.{arith, ◌≡◌, inl, inr, ℕ, List, [], true, sym, ap, ◌∙◌, subst}
 use Rattle.std.specs.Char.{is_ascii_alphanumeric}
 use Rattle.iloc_spec_grammar.specs.Syntax.{Text}
 use Rattle.iloc_outline.specs.Blocks.{IsBlockRead}
@@ -13,9 +12,14 @@ use Rattle.iloc_pieces.proofs.CursorLemmas.{last_piece, single_short}
 use Rattle.iloc_outline.proofs.SingletonSteps as at
 use Rattle.iloc_outline.proofs.blocks.read_blocks.Given.{Over}
 use Rattle.iloc_outline.proofs.blocks.read_blocks.Goals as goal
-use Rattle.iloc_outline.proofs.blocks.read_blocks.Goals.{After-read_body-found, Joined-rank-last-2}
-use Rattle.iloc_outline.proofs.blocks.read_blocks.Goals.{else-rank-last, else-rank-last-2}
-use Rattle.iloc_outline.proofs.blocks.read_blocks.Goals.{then-rank-last+else-has_block, then-rank-last-2}
+use Rattle.iloc_outline.proofs.blocks.read_blocks.Goals.{
+  After-read_body-found,
+  Joined-rank-last-2,
+  else-rank-last,
+  else-rank-last-2,
+  then-rank-last+else-has_block,
+  then-rank-last-2,
+}
 
 pub singletons-init : goal.singletons-init
 singletons-init g c =

@@ -1,6 +1,5 @@
 -- Private subtags up to the end, one at least.
-use Rattle.std.proofs.Common.{arith}
-use Rattle.std.proofs.Common.{◌+◌, false, [], ◌∷◌, ◌++◌, sym, ap, ◌∙◌}
+use Rattle.std.proofs.Common.{arith, ◌+◌, false, [], ◌∷◌, ◌++◌, sym, ap, ◌∙◌}
 use Rattle.iloc_spec_grammar.specs.Syntax.{PrivateSubtag, IsWord}
 use Rattle.iloc_pieces.specs.Cursor.{IsEnd, piece_left}
 use Rattle.iloc_outline.specs.Reading.{block_span}

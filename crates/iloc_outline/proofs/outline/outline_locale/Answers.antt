@@ -1,6 +1,5 @@
 -- A head that is all of the text is a locale; one before blocks is one if they are good.
-use Rattle.std.proofs.Common.{arith}
-use Rattle.std.proofs.Common.{take}
+use Rattle.std.proofs.Common.{arith, take}
 use Rattle.std.proofs.lemmas.List.{length-take-le}
 use Rattle.iloc_outline.proofs.FinishLemmas.{finished_alone, finished_locale}
 use Rattle.iloc_outline.proofs.Meanings.{refused_head}

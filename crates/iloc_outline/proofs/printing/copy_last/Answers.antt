@@ -1,5 +1,4 @@
-use Rattle.std.proofs.Common.{add-zero}
-use Rattle.std.proofs.Common.{append-nil, arith}
+use Rattle.std.proofs.Common.{add-zero, append-nil, arith}
 use Rattle.std.proofs.lemmas.Grind.{take-set_at}
 use Rattle.std.proofs.lemmas.List.{length-take-le, length-set}
 use Rattle.iloc_spec_grammar.specs.Syntax.{lower}

@@ -1,6 +1,5 @@
 -- Fields up to the next block, or what is wrong.
-use Rattle.std.proofs.Common.{arith}
-use Rattle.std.proofs.Common.{sym, ◌∙◌}
+use Rattle.std.proofs.Common.{arith, sym, ◌∙◌}
 use Rattle.iloc_outline.proofs.TransformReading.{alone_read, transform_single}
 use Rattle.iloc_outline.proofs.transform.read_fields_alone.Goals as goal
 

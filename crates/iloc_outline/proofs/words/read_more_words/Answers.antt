@@ -1,7 +1,22 @@
-use Rattle.std.proofs.Common.{arith}
+use Rattle.std.proofs.Common.{
+  arith,
+  rules,
+  ◌≡◌,
+  ◌≢◌,
+  ◌++◌,
+  false,
+  length,
+  take,
+  drop,
+  ap,
+  ◌∙◌,
+  sym,
+  subst,
+  inl,
+  inr,
+  refl,
+}
 use Rattle.std.specs.Prelude.{⊤}
-use Rattle.std.proofs.Common.{rules, ◌≡◌, ◌≢◌, ◌++◌, false, length, take, drop, ap, ◌∙◌, sym, subst, inl}
-use Rattle.std.proofs.Common.{inr, refl}
 use denote.Enum.Bare.{same_false, same_true}
 use Rattle.iloc_spans.specs.contracts.span.Role.{the_type}
 use Rattle.iloc_spans.specs.Group.{group_spans}
@@ -13,8 +28,14 @@ use Rattle.iloc_spans.specs.declared.inserting.Inserted.TheVariants.{Put, There,
 use Rattle.iloc_outline.proofs.GroupSteps.{grouped_put_from, walks_out}
 use Rattle.iloc_outline.proofs.RoleLemmas.{short_kind}
 use Rattle.iloc_spans.proofs.HeldLemmas.{length-held}
-use Rattle.iloc_outline.proofs.WordsInOrder.{IsKept, walks_end, walks_full, walks_more, walks_past}
-use Rattle.iloc_outline.proofs.WordsInOrder.{walks_repeat}
+use Rattle.iloc_outline.proofs.WordsInOrder.{
+  IsKept,
+  walks_end,
+  walks_full,
+  walks_more,
+  walks_past,
+  walks_repeat,
+}
 use Rattle.iloc_outline.proofs.words.read_more_words.Goals as goal
 use Rattle.iloc_outline.proofs.words.read_more_words.Goals.{in-Put, in-There+else-eq}
 
