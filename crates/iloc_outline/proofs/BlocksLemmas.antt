@@ -1,8 +1,46 @@
 -- Blocks of a text, one after another: what is known at each, and what one more adds.
-use Rattle.std.proofs.Common.{◌≡◌, ◌≢◌, ◌⊎◌, inl, inr, ℕ, ◌+◌, ◌<◌, ◌≤◌, ◌==◌, ◌&&◌, ◌||◌, Bool, true, false}
-use Rattle.std.proofs.Common.{not, cond, List, [], ◌∷◌, ◌++◌, length, map, flat_map, refl, sym, ap, ◌∙◌}
-use Rattle.std.proofs.Common.{subst, arith, Option, Some, None, append_assoc, append-nil, length-append}
-use Rattle.std.proofs.Common.{true≢false, IfSome, eq-eqb, is_some, ap₂, ◌↔◌}
+use Rattle.std.proofs.Common.{
+  ◌≡◌,
+  ◌≢◌,
+  ◌⊎◌,
+  inl,
+  inr,
+  ℕ,
+  ◌+◌,
+  ◌<◌,
+  ◌≤◌,
+  ◌==◌,
+  ◌&&◌,
+  ◌||◌,
+  Bool,
+  true,
+  false,
+  not,
+  cond,
+  List,
+  [],
+  ◌∷◌,
+  ◌++◌,
+  length,
+  map,
+  flat_map,
+  refl,
+  sym,
+  ap,
+  ◌∙◌,
+  arith,
+  Option,
+  Some,
+  None,
+  append_assoc,
+  append-nil,
+  length-append,
+  true≢false,
+  eq-eqb,
+  is_some,
+  ap₂,
+  ◌↔◌,
+}
 use Rattle.std.specs.List.{AllByRecursion, list_any}
 use Rattle.std.specs.Bool.{IsTrue, MatchBool}
 use Rattle.std.specs.Char.{is_ascii_alphanumeric, to_ascii_lowercase}
@@ -10,42 +48,67 @@ use Rattle.std.specs.Cmp.{nat_cmp_total}
 use Rattle.std.specs.Ordering.{nat_cmp, eq_by_cmp}
 use Rattle.std.specs.FinMap.{put, find, is_sorted, nat_cmp-IsAntisymmetric}
 use Rattle.std.specs.FinMap.Entries.{find-append, is_some-find}
-use Rattle.std.proofs.lemmas.Bool.{and_parts, and_from, or_left, or_right, both_ways, cases_lt, cases_Bool}
-use Rattle.std.proofs.lemmas.Bool.{eqb-true, false_from_ne_true}
+use Rattle.std.proofs.lemmas.Bool.{
+  and_parts,
+  and_from,
+  or_left,
+  or_right,
+  both_ways,
+  cases_lt,
+  eqb-true,
+  false_from_ne_true,
+}
 use Rattle.std.proofs.lemmas.Bool.Decides.{nat_tests}
 use Rattle.std.proofs.Math.Nat.{le_antisymm}
 use Rattle.std.proofs.lemmas.List.{map-append}
 use Rattle.std.proofs.lemmas.List.Concat.{flat_map-append}
 use Rattle.std.proofs.lemmas.List.Folds.{list_any-append}
 use Rattle.std.proofs.lemmas.Simd.{map-map}
-use Rattle.iloc_spec_grammar.specs.Syntax.{Text, Block, AllDifferent, HasWords, SpelledIdentifier}
-use Rattle.iloc_spec_grammar.specs.Syntax.{SpelledUnicode, SpelledTransform, IsAmong, IsIdentifier}
-use Rattle.iloc_spec_grammar.specs.Syntax.{TransformKey, Fields, code_t, code_u, code_x, front, blocks}
-use Rattle.iloc_spec_grammar.specs.Syntax.{first_piece, identifier_pieces, is_one_byte, is_word, languages}
-use Rattle.iloc_spec_grammar.specs.Syntax.{lower, lower_singleton, optional_pieces, transform_pieces}
-use Rattle.iloc_spec_grammar.specs.Syntax.{word_cmp}
+use Rattle.iloc_spec_grammar.specs.Syntax.{
+  Text,
+  Block,
+  SpelledUnicode,
+  SpelledTransform,
+  IsAmong,
+  Fields,
+  code_t,
+  code_x,
+  front,
+  blocks,
+  first_piece,
+  is_one_byte,
+  languages,
+  lower,
+  lower_singleton,
+}
 use Rattle.iloc_spec_grammar.specs.Meaning.{InvalidExtension, InvalidSubtag, DuplicatedExtension, map_of}
-use Rattle.iloc_spec_grammar.specs.Tree.{IsTransformBlock, block_pieces}
-use Rattle.iloc_spec_grammar.specs.Reading.{after_front, before_key, front_of, identifier_of, starts_block}
-use Rattle.iloc_spec_grammar.specs.Reading.{transform_of, unicode_of}
-use Rattle.iloc_spec_grammar.specs.Computing.{all_different, first_fault, is_block, repeats_variant}
-use Rattle.iloc_spec_grammar.proofs.FaultLaws.{repeats_longer, some_repeat}
+use Rattle.iloc_spec_grammar.specs.Tree.{block_pieces}
+use Rattle.iloc_spec_grammar.specs.Reading.{starts_block}
+use Rattle.iloc_spec_grammar.specs.Computing.{first_fault, is_block, repeats_variant}
+use Rattle.iloc_spec_grammar.proofs.FaultLaws.{block_no_repeat, tests_repeats}
 use Rattle.iloc_spec_grammar.proofs.General.{all_mapped, all_of}
 use Rattle.iloc_spec_grammar.proofs.MapLaws.{all-map_of, find-map_of, is_sorted-map_of, map_of_same}
 use Rattle.iloc_spec_grammar.proofs.Singletons.{lower_letter, self_tied}
 use Rattle.iloc_spec_grammar.proofs.ValuesLaws.{all_weaker}
-use Rattle.iloc_spec_grammar.proofs.IdentifierLaws.{identifier_of-pieces}
 use Rattle.iloc_spec_grammar.proofs.ReadBack.{all_append}
-use Rattle.iloc_spec_grammar.proofs.ReadingLaws.{front_words, pieces-front_of}
-use Rattle.iloc_spec_grammar.proofs.Readings.{IsNoKey, before_key_read, fields_pass, identifier_no_key}
-use Rattle.iloc_spec_grammar.proofs.Readings.{optional_no_key, pieces-transform_of}
-use Rattle.iloc_spec_grammar.proofs.RuleTests.{tests_denied, tests_different, tests_not}
+use Rattle.iloc_spec_grammar.proofs.Readings.{blocks_skip}
+use Rattle.iloc_spec_grammar.proofs.RuleTests.{tests_block, tests_fails}
 use Rattle.iloc_outline.specs.Blocks.{AreBegun, IsBlockRead, ReadsBlocks, body_of}
 use Rattle.iloc_outline.specs.Groups.{AreGroups, IsGroup, parts_in}
 use Rattle.iloc_pieces.specs.Cursor.{IsLater, piece_left, pieces_left, whole_text}
-use Rattle.iloc_outline.specs.Parts.{Part, block_parts, blocks_parts, field_part, in_order, optional_front}
-use Rattle.iloc_outline.specs.Parts.{optional_variants, printed_part, rank, ranked, singleton_part}
-use Rattle.iloc_outline.specs.Parts.{transform_parts, unicode_parts, variant_parts, word_part}
+use Rattle.iloc_outline.specs.Parts.{
+  Part,
+  block_parts,
+  field_part,
+  in_order,
+  printed_part,
+  rank,
+  ranked,
+  transform_parts,
+  unicode_parts,
+  variant_parts,
+  word_part,
+}
 use Rattle.iloc_outline.specs.Reading.{IsBody, IsPrivateBody, IsTooMuch, Puts}
 use Rattle.iloc_outline.specs.Spans.{Spell}
 use Rattle.iloc_spans.specs.Spans.{held_spans}
@@ -60,8 +123,6 @@ use Rattle.iloc_outline.proofs.Maps.{flat-append, put_between}
 use Rattle.iloc_outline.proofs.SpansLemmas.{spell_length}
 use Rattle.iloc_spans.proofs.HeldLemmas.{length-held}
 use Rattle.iloc_outline.proofs.PartsInOrder.{all_in_order}
-use Rattle.iloc_outline.proofs.PrintedBlocks.{rule_of, t_rule}
-use Rattle.iloc_outline.proofs.TransformLemmas.{no_language}
 
 -- parts that are no singletons
 abbrev pub ArePlain : List Part → Type 0
@@ -109,69 +170,26 @@ abbrev pub later_of : ℕ → List Text → List Block
 later_of c ps = cond (to_ascii_lowercase c == code_x) [] (blocks ps)
 
 blocks_first : (c : ℕ) (ps : List Text) → blocks ((c ∷ []) ∷ ps) ≡ (c, body_of c ps) ∷ later_of c ps
-blocks_first c ps = elim (to_ascii_lowercase c == code_x) as
-    (λ t. cond t ((c, ps) ∷ []) ((c, front ps) ∷ blocks ps)
-    ≡ (c, cond t ps (front ps)) ∷ cond t [] (blocks ps)) [ true ↦ refl | false ↦ refl ]
-
--- a longer piece begins no block
-pub blocks_skip : (p : Text) (ps : List Text) → is_one_byte p ≡ false → blocks (p ∷ ps) ≡ blocks ps
-blocks_skip [] ps h = refl
-blocks_skip (c ∷ []) ps h = absurd (true≢false h)
-blocks_skip (c ∷ d ∷ p) ps h = refl
+blocks_first c ps = grind arith
 
 -- where the body ends, blocks go on
 pub blocks_behind : (body rest : List Text) → front (body ++ rest) ≡ body → starts_block rest ≡ true
     → blocks (body ++ rest) ≡ blocks rest
 blocks_behind [] rest e s = refl
-blocks_behind (p ∷ body) rest e s = at (length p == 1) refl e (blocks_behind body rest) s
-  where
-    at : (t : Bool) → is_one_byte p ≡ t → cond t [] (p ∷ front (body ++ rest)) ≡ p ∷ body
-        → (front (body ++ rest) ≡ body → starts_block rest ≡ true → blocks (body ++ rest) ≡ blocks rest)
-        → starts_block rest ≡ true → blocks (p ∷ (body ++ rest)) ≡ blocks rest
-    at true t e more s = cc
-    at false t e more s = blocks_skip p (body ++ rest) t ∙ more (cc) s
+blocks_behind (p ∷ body) rest e s = grind (arith, blocks_skip, blocks_behind body rest)
 
--- ---- a repeated variant
+-- ---- bad blocks
 
-before_no_key : (xs ys : List Text) → AllByRecursion IsNoKey xs → before_key (is_word TransformKey) (xs ++ ys)
-    ≡ xs ++ before_key (is_word TransformKey) ys
-before_no_key [] ys h = refl
-before_no_key (x ∷ xs) ys h = rw h.0 (ap (λ l. x ∷ l) (before_no_key xs ys h.1))
-
--- a good transform repeats no variant at its front
-no_repeat : (m : SpelledTransform) → IsTransformBlock languages m → (i : SpelledIdentifier) (rest : List Text)
-    → HasWords languages i
-    → transform_pieces m ≡ identifier_pieces i ++ rest → AllDifferent word_cmp (map lower i.variants)
-no_repeat m h i rest w e = elim (cases_Bool (all_different word_cmp (map lower i.variants))) [
-  | inl t ↦ (tests_different word_cmp (map lower i.variants)).holds t
-  | inr t ↦ absurd (at m.id h.id (tests_not (tests_different word_cmp (map lower i.variants)) t)
-      (sym (before_key_read (is_word TransformKey) (optional_pieces m.id) m.fields
-      (optional_no_key languages m.id h.id) (fields_pass m.fields h.fields))
-      ∙ ap (before_key (is_word TransformKey)) e ∙ before_no_key (identifier_pieces i) rest
-      (identifier_no_key i w)))
-]
-  where
-    at : (o : Option SpelledIdentifier) → IfSome o (IsIdentifier languages)
-        → ¬ (AllDifferent word_cmp (map lower i.variants))
-        → optional_pieces o ≡ identifier_pieces i ++ before_key (is_word TransformKey) rest → ⊥
-    at None g d e = cc
-    at (Some j) g d e =
-        let same : j.variants ≡ i.variants ++ before_key (is_word TransformKey) rest =
-        ap (λ (k : SpelledIdentifier). k.variants) (sym (identifier_of-pieces j g.words))
-        ∙ ap (λ l. (identifier_of l).variants) e ∙ repeats_longer i _ w d in
-        d (some_repeat word_cmp (map lower i.variants) _
-        (subst (AllDifferent word_cmp) (ap (map lower) same ∙ map-append lower i.variants _) g.different))
+-- the block is bad, and a test tells whether a variant is repeated after `t`
+abbrev pub IsBadBlock : ℕ → Bool → List Text → Type 0
+IsBadBlock c repeated body = (is_block languages (c, body) ≡ false)
+    × (((to_ascii_lowercase c == code_t) && repeats_variant languages body) ≡ repeated)
 
 -- the block whose variant is repeated is bad
 repeated_bad : (c : ℕ) (ps : List Text) → to_ascii_lowercase c ≡ code_t → repeats_variant languages ps ≡ true
     → is_block languages (c, ps) ≡ false
-repeated_bad c [] e r = absurd (true≢false (sym (and_parts _ _ r).0 ∙ no_language))
-repeated_bad c (p ∷ ps) e r = false_from_ne_true _
-    (λ g. (tests_denied (tests_different word_cmp (map lower (front_of (p ∷ ps)).variants))).holds
-    (and_parts _ _ r).1
-    (no_repeat (transform_of (p ∷ ps)) (t_rule languages (p ∷ ps) (rule_of languages (c, p ∷ ps) code_t e g))
-    (front_of (p ∷ ps)) (after_front (p ∷ ps)) (front_words (p ∷ ps) (and_parts _ _ r).0)
-    (pieces-transform_of (p ∷ ps) ∙ sym (pieces-front_of p ps))))
+repeated_bad c ps e r = tests_fails (tests_block languages (c, ps))
+    (λ g. block_no_repeat languages (c, ps) e g ((tests_repeats languages ps).holds r))
 
 -- ---- what was read behind a singleton
 
@@ -194,15 +212,7 @@ read_end c l k old new o n h = at (to_ascii_lowercase c == code_x) refl h
   where
     at : (b : Bool) → (to_ascii_lowercase c == code_x) ≡ b → IsReadAt b c l k old new o n End
         → IsRead c (whole_text l) (pieces_left l) [] old new o n
-    at true e h = record {
-      body = pieces_left l;
-      all = sym (append-nil (pieces_left l));
-      first =
-          ap (λ t. cond t ((c, pieces_left l) ∷ []) ((c, front (pieces_left l)) ∷ blocks (pieces_left l))) e;
-      good =
-          h.0;
-      puts = h.1;
-    }
+    at true e h = grind (arith, append-nil)
     at false e h = record {
       body = pieces_left l;
       all = sym (append-nil (pieces_left l));
@@ -237,69 +247,37 @@ read_next c l k old new o n h = at (to_ascii_lowercase c == code_x) refl h
         → IsReadTo c l k old new o n
     at true e h = absurd (h tt)
     at false e h =
-        let ends : front (h.0 ++ pieces_left k) ≡ h.0 = ap front (sym h.1.pieces) ∙ h.3.body in
-        record {
-          read = record {
-            body = h.0;
-            all = h.1.pieces;
-            first = ap (λ t. cond t ((c, pieces_left l) ∷ [])
-                ((c, front (pieces_left l)) ∷ blocks (pieces_left l))) e
-                ∙ (λ j. (c, h.3.body j) ∷ (ap blocks h.1.pieces
-                ∙ blocks_behind h.0 (pieces_left k) ends (starts_at (pieces_left k) h.2)) j);
-            good = h.3.good;
-            puts = h.3.puts;
-          };
-          later = h.1.later;
-          single = h.2;
-          less = h.1.less;
-          window = h.1.window;
-          end = h.1.end;
-          text = h.1.text;
-        }
+        grind (arith, blocks_behind, starts_at)
 
 -- it is bad, and no variant is repeated
 pub read_bad : (c : ℕ) (l k : Cursor) (old new : Spans) (o n : Bool) → IsBlockRead c l k old new o n Bad
-    → (is_block languages (c, body_of c (pieces_left l)) ≡ false)
-    × (((to_ascii_lowercase c == code_t) && repeats_variant languages (body_of c (pieces_left l))) ≡ false)
+    → IsBadBlock c false (body_of c (pieces_left l))
 read_bad c l k old new o n h = at (to_ascii_lowercase c == code_x) refl h
   where
     no_t : (k : ℕ) → (k == code_x) ≡ true → (k == code_t) ≡ false
     no_t k e = grind (arith, nat_tests)
 
     at : (b : Bool) → (to_ascii_lowercase c == code_x) ≡ b → IsReadAt b c l k old new o n Bad
-        → (is_block languages (c, cond b (pieces_left l) (front (pieces_left l))) ≡ false)
-        × (((to_ascii_lowercase c == code_t) && repeats_variant languages
-        (cond b (pieces_left l) (front (pieces_left l)))) ≡ false)
+        → IsBadBlock c false (cond b (pieces_left l) (front (pieces_left l)))
     at true e h =
         (h, ap (λ t. t && repeats_variant languages (pieces_left l)) (no_t (to_ascii_lowercase c) e))
-    at false e h = (
-      h.0,
-      false_from_ne_true _ (λ k. let parts = and_parts _ _ k in
-          h.1 (eqb-true _ _ parts.0, parts.1)),
-    )
+    at false e h = grind (arith, false_from_ne_true, and_parts, eqb-true)
 
 -- a variant is repeated after `t`
 pub read_repeated : (c : ℕ) (l k : Cursor) (old new : Spans) (o n : Bool) →
     IsBlockRead c l k old new o n Repeated
-    → (is_block languages (c, body_of c (pieces_left l)) ≡ false)
-    × (((to_ascii_lowercase c == code_t) && repeats_variant languages (body_of c (pieces_left l))) ≡ true)
+    → IsBadBlock c true (body_of c (pieces_left l))
 read_repeated c l k old new o n h = at (to_ascii_lowercase c == code_x) h
   where
     at : (b : Bool) → IsReadAt b c l k old new o n Repeated
-        → (is_block languages (c, cond b (pieces_left l) (front (pieces_left l))) ≡ false)
-        × (((to_ascii_lowercase c == code_t) && repeats_variant languages
-        (cond b (pieces_left l) (front (pieces_left l)))) ≡ true)
+        → IsBadBlock c true (cond b (pieces_left l) (front (pieces_left l)))
     at true h = absurd (h tt)
     at false h = (repeated_bad c (front (pieces_left l)) h.0 h.1, and_from _ _ (eq-eqb _ _ h.0) h.1)
 
 -- there is no room for what the pieces may need
 pub read_full : (c : ℕ) (l k : Cursor) (old new : Spans) (o n : Bool) → IsBlockRead c l k old new o n Full
     → IsTooMuch old (1 + length (pieces_left l))
-read_full c l k old new o n h = at (to_ascii_lowercase c == code_x) h
-  where
-    at : (b : Bool) → IsReadAt b c l k old new o n Full → IsTooMuch old (1 + length (pieces_left l))
-    at true h = h
-    at false h = h
+read_full c l k old new o n h = grind arith
 
 no_some : {X : Type 0} (o : Option X) → is_some o ≡ false → o ≡ None
 no_some None e = refl
@@ -317,8 +295,7 @@ any_ranks : (c : ℕ) → is_ascii_alphanumeric c ≡ true → (bs : List Block)
     → list_any (eq_by_cmp nat_cmp (rank (to_ascii_lowercase c))) (ranks bs)
     ≡ list_any (eq_by_cmp nat_cmp (to_ascii_lowercase c)) (map (λ b. lower_singleton b) bs)
 any_ranks c a [] h = refl
-any_ranks c a (b ∷ bs) h = ap₂ ◌||◌ (rank_same (to_ascii_lowercase c) (lower_singleton b) (lower_letter c a)
-    (lower_letter b.0 h.0)) (any_ranks c a bs h.1)
+any_ranks c a (b ∷ bs) h = search (ap₂, rank_same, lower_letter, any_ranks c a bs h.1)
 
 any_groups : (r : ℕ) (bs : List Block) → list_any (eq_by_cmp nat_cmp r) (map (λ g. g.0) (groups_of bs))
     ≡ list_any (eq_by_cmp nat_cmp r) (ranks bs)
@@ -342,30 +319,15 @@ pub plain_variants : (ws : List Text) → ArePlain (variant_parts ws)
 plain_variants ws = plain_words roles.Variant (λ e. cc) ws
 
 plain_transform : (m : SpelledTransform) → ArePlain (transform_parts m)
-plain_transform m = all_append _ (variant_parts (optional_variants m.id)) _
-    (plain_variants (optional_variants m.id)) (plain_fields roles.Field (λ e. cc) m.fields)
+plain_transform m = grind (arith, all_append, plain_variants, plain_fields)
 
 plain_unicode : (u : SpelledUnicode) → ArePlain (unicode_parts u)
-plain_unicode u = all_append _ (in_order (map (word_part roles.Attribute) u.attributes)) _
-    (plain_words roles.Attribute (λ e. cc) u.attributes) (plain_fields roles.Keyword (λ e. cc) u.keywords)
-
--- each block is a group
-block_group : (b : Block) → IsGroup (ranked b)
-block_group b = at (lower_singleton b == code_t) (lower_singleton b == code_u)
-  where
-    at : (t u : Bool) → IsGroup (
-      rank (lower_singleton b),
-      cond t (singleton_part b.0 (optional_front (transform_of b.1).id) ∷ transform_parts
-          (transform_of b.1)) (cond u (singleton_part b.0 [] ∷ unicode_parts (unicode_of b.1))
-          (singleton_part b.0 b.1 ∷ [])),
-    )
-    at true u = (refl, refl, plain_transform (transform_of b.1))
-    at false true = (refl, refl, plain_unicode (unicode_of b.1))
-    at false false = (refl, refl, tt)
+plain_unicode u = grind (arith, all_append, plain_words, plain_fields)
 
 all_groups : (bs : List Block) → AllByRecursion IsGroup (groups_of bs)
 all_groups bs = all-map_of nat_cmp nat_cmp-IsAntisymmetric IsGroup (map ranked bs)
-    (all_mapped (λ _. Unit {0}) IsGroup ranked (λ b _. block_group b) bs (all_of _ (λ _. tt) bs))
+    (all_mapped (λ _. Unit {0}) IsGroup ranked (λ b _. (grind (arith, plain_transform, plain_unicode))) bs
+    (all_of _ (λ _. tt) bs))
 
 -- one block more, whose rank is new
 groups_more : (bs : List Block) (b : Block) → list_any (eq_by_cmp nat_cmp (rank (lower_singleton b)))
@@ -378,9 +340,11 @@ groups_more bs b new =
     (rank (lower_singleton b)) (block_parts b) q none)
   where
     none : find nat_cmp (rank (lower_singleton b)) (map ranked bs) ≡ None
-    none = no_some _ (is_some-find nat_cmp (rank (lower_singleton b)) (map ranked bs)
-        ∙ ap (list_any (eq_by_cmp nat_cmp (rank (lower_singleton b))))
-        (map-map (λ (g : ℕ × List Part). g.0) ranked bs) ∙ new)
+    none = no_some _ (cc (
+      is_some-find nat_cmp (rank (lower_singleton b)) (map ranked bs),
+      map-map (λ (g : ℕ × List Part). g.0) ranked bs,
+      new,
+    ))
 
 -- a block of the greatest rank comes last
 groups_last : (bs : List Block) (r : ℕ) (ps : List Part) → AllByRecursion (λ k. k < r) (ranks bs)
@@ -389,12 +353,25 @@ groups_last bs r ps h =
     let below : AllByRecursion (λ g. g.0 < r) (groups_of bs) =
     all-map_of nat_cmp nat_cmp-IsAntisymmetric (λ g. g.0 < r) (map ranked bs)
     (all_ranks (λ k. k < r) bs h) in
-    ap (put nat_cmp r ps) (sym (append-nil (groups_of bs))) ∙ put_between r ps (groups_of bs) [] below tt
+    cc (append-nil (groups_of bs), put_between r ps (groups_of bs) [] below tt)
   where
     all_ranks : (P : ℕ → Type 0) (bs : List Block) → AllByRecursion P (ranks bs)
         → AllByRecursion (λ (g : ℕ × List Part). P g.0) (map ranked bs)
     all_ranks P [] h = tt
     all_ranks P (b ∷ bs) h = (h.0, all_ranks P bs h.1)
+
+-- the test tells whether a group among the spans has the rank
+abbrev pub IsTold : Spans → ℕ → Bool → Type 0
+IsTold now r b = (t : Text) (before : List Part) (groups : List (ℕ × List Part)) → AreGroups before groups
+    → Spell t now (before ++ parts_in groups) → IsTrue b ↔ IsAmong nat_cmp r (map (λ g. g.0) groups)
+
+-- the last parts of mid stand in placed where their new rank belongs
+abbrev pub IsPlaced : Spans → Spans → Spans → ℕ → Type 0
+IsPlaced now mid placed r = (t : Text) (before parts : List Part) (groups : List (ℕ × List Part))
+    → AreGroups before groups → is_sorted nat_cmp groups ≡ true
+    → ¬ (IsAmong nat_cmp r (map (λ g. g.0) groups)) → length (before ++ parts_in groups) ≡ now.count
+    → Spell t mid ((before ++ parts_in groups) ++ parts)
+    → Spell t placed (before ++ parts_in (put nat_cmp r parts groups))
 
 -- ---- faults of a block
 
@@ -411,41 +388,34 @@ module _ (c : ℕ) (ps : List Text) (l : Cursor) (old : Spans) (o : Bool) (last 
       → list_any (eq_by_cmp nat_cmp (to_ascii_lowercase c)) d.seen ≡ s → is_block languages (c, body_of c ps)
       ≡ g
       → ((to_ascii_lowercase c == code_t) && repeats_variant languages (body_of c ps)) ≡ r → Outcome a s g r
-  outcome a s g r x y z w = d.fault ∙ ap (first_fault languages d.seen) (blocks_first c ps)
-      ∙ (λ j. cond (not (x j)) (Some InvalidExtension)
-      (cond (y j) (Some DuplicatedExtension) (cond (z j)
-      (first_fault languages (to_ascii_lowercase c ∷ d.seen) (later_of c ps))
-      (cond (w j) (Some InvalidSubtag) (Some InvalidExtension)))))
+  outcome a s g r x y z w = grind (arith, blocks_first)
 
   -- the singleton is no letter or digit
   pub no_letter : is_ascii_alphanumeric c ≡ false → first_fault languages [] (blocks (pieces_left l))
       ≡ Some InvalidExtension
   no_letter a = outcome false _ _ _ a refl refl refl
 
+  -- whether the rank is among those of the blocks before
+  abbrev pub IsSeen : Bool → Type 0
+  IsSeen b = list_any (eq_by_cmp nat_cmp (rank (to_ascii_lowercase c))) (ranks d.done) ≡ b
+
   -- the ranks tell whether it was seen
   seen_by : is_ascii_alphanumeric c ≡ true → list_any (eq_by_cmp nat_cmp (to_ascii_lowercase c)) d.seen
       ≡ list_any (eq_by_cmp nat_cmp (rank (to_ascii_lowercase c))) (ranks d.done)
-  seen_by a = d.seen_is (to_ascii_lowercase c) ∙ sym (any_ranks c a d.done d.letters)
+  seen_by a = grind (arith, any_ranks)
 
   -- an earlier block has the singleton
-  pub is_second : is_ascii_alphanumeric c ≡ true
-      → list_any (eq_by_cmp nat_cmp (rank (to_ascii_lowercase c))) (ranks d.done) ≡ true
+  pub is_second : is_ascii_alphanumeric c ≡ true → IsSeen true
       → first_fault languages [] (blocks (pieces_left l)) ≡ Some DuplicatedExtension
   is_second a s = outcome true true _ _ a (seen_by a ∙ s) refl refl
 
   -- the block is bad
-  pub is_bad : is_ascii_alphanumeric c ≡ true → list_any (eq_by_cmp nat_cmp (rank (to_ascii_lowercase c)))
-      (ranks d.done) ≡ false
-      → (is_block languages (c, body_of c ps) ≡ false)
-      × (((to_ascii_lowercase c == code_t) && repeats_variant languages (body_of c ps)) ≡ false)
+  pub is_bad : is_ascii_alphanumeric c ≡ true → IsSeen false → IsBadBlock c false (body_of c ps)
       → first_fault languages [] (blocks (pieces_left l)) ≡ Some InvalidExtension
   is_bad a s g = outcome true false false false a (seen_by a ∙ s) g.0 g.1
 
   -- a variant is repeated
-  pub repeats : is_ascii_alphanumeric c ≡ true → list_any (eq_by_cmp nat_cmp (rank (to_ascii_lowercase c)))
-      (ranks d.done) ≡ false
-      → (is_block languages (c, body_of c ps) ≡ false)
-      × (((to_ascii_lowercase c == code_t) && repeats_variant languages (body_of c ps)) ≡ true)
+  pub repeats : is_ascii_alphanumeric c ≡ true → IsSeen false → IsBadBlock c true (body_of c ps)
       → first_fault languages [] (blocks (pieces_left l)) ≡ Some InvalidSubtag
   repeats a s g = outcome true false false true a (seen_by a ∙ s) g.0 g.1
 
@@ -453,30 +423,17 @@ module _ (c : ℕ) (ps : List Text) (l : Cursor) (old : Spans) (o : Bool) (last 
 
 or_last : (x y : Bool) → (x || (y || false)) ≡ (y || x)
 or_last true true = refl
-or_last true false = refl
-or_last false true = refl
-or_last false false = refl
+or_last _ _ = refl
 
 any_last : (q : ℕ) (c : ℕ) (ks : Text) → list_any (eq_by_cmp nat_cmp q) (ks ++ c ∷ [])
     ≡ (eq_by_cmp nat_cmp q c || list_any (eq_by_cmp nat_cmp q) ks)
-any_last q c ks = list_any-append (eq_by_cmp nat_cmp q) ks (c ∷ [])
-    ∙ or_last (list_any (eq_by_cmp nat_cmp q) ks) (eq_by_cmp nat_cmp q c)
-
-rank_some : (c : ℕ) → is_ascii_alphanumeric c ≡ true → 0 < rank (to_ascii_lowercase c)
-rank_some c a = grind (arith, nat_tests)
+any_last q c ks = simp (list_any-append, or_last)
 
 -- a new rank that is not less than the greatest is greater
 greatest : (c last : ℕ) (ks : Text) → is_ascii_alphanumeric c ≡ true → (last ≡ 0) ⊎ IsAmong nat_cmp last ks
     → list_any (eq_by_cmp nat_cmp (rank (to_ascii_lowercase c))) ks ≡ false
     → last ≤ rank (to_ascii_lowercase c) → last < rank (to_ascii_lowercase c)
-greatest c last ks a there new h = elim (cases_lt last (rank (to_ascii_lowercase c))) [
-  | inl l ↦ l
-  | inr g ↦ absurd (at there (le_antisymm h g))
-]
-  where
-    at : (last ≡ 0) ⊎ IsAmong nat_cmp last ks → last ≡ rank (to_ascii_lowercase c) → ⊥
-    at (inl z) e = let some = rank_some c a in absurd (omega arith)
-    at (inr x) e = true≢false (sym x ∙ ap (λ q. list_any (eq_by_cmp nat_cmp q) ks) e ∙ new)
+greatest c last ks a there new h = grind (arith, cases_lt, le_antisymm, true≢false, nat_tests)
 
 module _ (c : ℕ) (ps rest : List Text) (l : Cursor) (old : Spans) (o : Bool) (last : ℕ) (now mid : Spans)
     (n m k : Bool)
@@ -500,8 +457,7 @@ module _ (c : ℕ) (ps rest : List Text) (l : Cursor) (old : Spans) (o : Bool) (
   cut_more : pieces_left l ≡ flat_map block_pieces more ++ rest
   cut_more = d.cut ∙ ap (λ qs. flat_map block_pieces d.done ++ ((c ∷ []) ∷ qs)) r.all
       ∙ sym (append_assoc (flat_map block_pieces d.done) ((c ∷ []) ∷ r.body) rest)
-      ∙ ap (λ qs. qs ++ rest) (ap (λ qs. flat_map block_pieces d.done ++ qs)
-      (sym (append-nil ((c ∷ []) ∷ r.body))) ∙ sym (flat_map-append block_pieces d.done (block ∷ [])))
+      ∙ ap (λ qs. qs ++ rest) (simp (append-nil, flat_map-append))
 
   fault_more : first_fault languages [] (blocks (pieces_left l))
       ≡ first_fault languages (to_ascii_lowercase c ∷ d.seen) (blocks rest)
@@ -514,20 +470,17 @@ module _ (c : ℕ) (ps rest : List Text) (l : Cursor) (old : Spans) (o : Bool) (
 
   seen_more : (q : ℕ) → list_any (eq_by_cmp nat_cmp q) (to_ascii_lowercase c ∷ d.seen)
       ≡ list_any (eq_by_cmp nat_cmp q) (map (λ b. lower_singleton b) more)
-  seen_more q = ap (λ t. eq_by_cmp nat_cmp q (to_ascii_lowercase c) || t) (d.seen_is q)
-      ∙ sym (any_last q (to_ascii_lowercase c) (map (λ b. lower_singleton b) d.done))
-      ∙ ap (list_any (eq_by_cmp nat_cmp q)) (sym (map-append (λ b. lower_singleton b) d.done (block ∷ [])))
+  seen_more q = grind (arith, any_last, map-append)
 
   ranks_more : ranks more ≡ ranks d.done ++ its_rank ∷ []
   ranks_more = map-append (λ b. rank (lower_singleton b)) d.done (block ∷ [])
 
   most_more : (top : ℕ) → AllByRecursion (λ j. j ≤ top) (ranks d.done) → its_rank ≤ top
       → AllByRecursion (λ j. j ≤ top) (ranks more)
-  most_more top h x = subst (AllByRecursion (λ j. j ≤ top)) (sym ranks_more)
-      (all_append (λ j. j ≤ top) (ranks d.done) (its_rank ∷ []) h (x, tt))
+  most_more top h x = search (ranks_more, all_append)
 
   some_more : (q : ℕ) → IsAmong nat_cmp q (its_rank ∷ ranks d.done) → IsAmong nat_cmp q (ranks more)
-  some_more q h = ap (list_any (eq_by_cmp nat_cmp q)) ranks_more ∙ any_last q its_rank (ranks d.done) ∙ h
+  some_more q h = search (ranks_more, any_last)
 
   groups_are : groups_of more ≡ put nat_cmp its_rank (block_parts block) (groups_of d.done)
   groups_are = groups_more d.done block new
@@ -544,20 +497,7 @@ module _ (c : ℕ) (ps rest : List Text) (l : Cursor) (old : Spans) (o : Bool) (
 
   order_more : k ≡ true → (o ≡ true) × (flat_map printed_part (parts_in (groups_of more))
       ≡ map lower (flat_map block_pieces more))
-  order_more e =
-      let read = r.puts.order e in
-      let before = ordered read.0 in
-      let all = d.order before.0 in
-      let pieces : flat_map block_pieces more ≡ flat_map block_pieces d.done ++ ((c ∷ []) ∷ r.body) =
-      flat_map-append block_pieces d.done (block ∷ [])
-      ∙ ap (λ qs. flat_map block_pieces d.done ++ qs) (append-nil ((c ∷ []) ∷ r.body)) in (
-        all.0,
-        ap (flat_map printed_part) (last_parts before.1)
-            ∙ flat_map-append printed_part (parts_in (groups_of d.done)) (block_parts block)
-            ∙ (λ j. all.1 j ++ read.1 j)
-            ∙ sym (map-append lower (flat_map block_pieces d.done) ((c ∷ []) ∷ r.body))
-            ∙ ap (map lower) (sym pieces),
-      )
+  order_more e = grind (arith, flat_map-append, append-nil, last_parts, map-append)
 
   few_more : length (held_spans mid) + length rest ≤ length (held_spans old) + length (pieces_left l)
   few_more = omega (arith, r.puts.few, d.few, ap length r.all, length-append r.body rest)
@@ -573,14 +513,9 @@ module _ (c : ℕ) (ps rest : List Text) (l : Cursor) (old : Spans) (o : Bool) (
         split = split_more;
         fault = fault_more;
         seen_is = seen_more;
-        letters = all_append (λ b. is_ascii_alphanumeric b.0 ≡ true) d.done (block ∷ []) d.letters
-            (letter, tt);
-        adds = λ qs plain was. subst (Spell (whole_text l) mid)
-            (append_assoc qs (parts_in (groups_of d.done)) (block_parts block)
-            ∙ ap (λ ts. qs ++ ts) (sym (last_parts above)))
-            (r.puts.adds (qs ++ parts_in (groups_of d.done)) (d.adds qs plain was));
-        most = most_more its_rank (all_weaker (λ j. j ≤ last) (λ j. j ≤ its_rank) (λ j x. omega arith)
-            (ranks d.done) d.most) (omega arith);
+        letters = search all_append;
+        adds = grind (arith, append_assoc, last_parts);
+        most = most_more its_rank (grind (arith, all_weaker)) (omega arith);
         there = inr (some_more its_rank (or_left _ _ (self_tied its_rank)));
         few = few_more;
         order = order_more;
@@ -588,12 +523,7 @@ module _ (c : ℕ) (ps rest : List Text) (l : Cursor) (old : Spans) (o : Bool) (
 
   -- or it is placed before those of greater ranks
   pub is_placed : its_rank < last → (placed : Spans) → placed.count ≡ mid.count
-      → ((t : Text) (before parts : List Part) (groups : List (ℕ × List Part)) → AreGroups before groups
-      → is_sorted nat_cmp groups ≡ true
-      → ¬ (IsAmong nat_cmp its_rank (map (λ g. g.0) groups)) → length (before ++ parts_in groups) ≡ now.count
-      → Spell t mid ((before ++ parts_in groups) ++ parts)
-      → Spell t placed (before ++ parts_in (put nat_cmp its_rank parts groups)))
-      → IsDone l old o rest last placed k
+      → IsPlaced now mid placed its_rank → IsDone l old o rest last placed k
   is_placed below placed count place = record {
     done = more;
     seen = to_ascii_lowercase c ∷ d.seen;
@@ -601,13 +531,12 @@ module _ (c : ℕ) (ps rest : List Text) (l : Cursor) (old : Spans) (o : Bool) (
     split = split_more;
     fault = fault_more;
     seen_is = seen_more;
-    letters = all_append (λ b. is_ascii_alphanumeric b.0 ≡ true) d.done (block ∷ []) d.letters (letter, tt);
-    adds = λ qs plain was. subst (λ gs. Spell (whole_text l) placed (qs ++ parts_in gs)) (sym groups_are)
-        (place (whole_text l) qs (block_parts block) (groups_of d.done) (plain, all_groups d.done)
+    letters = search all_append;
+    adds = λ qs plain was. rw groups_are (place (whole_text l) qs (block_parts block) (groups_of d.done)
+        (plain, all_groups d.done)
         (is_sorted-map_of nat_cmp nat_cmp_total (map ranked d.done))
         (both_ways _ (any_groups its_rank d.done ∙ new))
-        (spell_length (whole_text l) now (qs ++ parts_in (groups_of d.done)) (d.adds qs plain was)
-        ∙ length-held now)
+        (grind (arith, spell_length, length-held))
         (r.puts.adds (qs ++ parts_in (groups_of d.done)) (d.adds qs plain was)));
     most = most_more last d.most (omega arith);
     there = elim d.there [ inl x ↦ inl x | inr x ↦ inr (some_more last (or_right _ _ x)) ];
@@ -627,7 +556,7 @@ at_start l old o = record {
   fault = refl;
   seen_is = λ q. refl;
   letters = tt;
-  adds = λ ps plain h. subst (Spell (whole_text l) old) (sym (append-nil ps)) h;
+  adds = λ ps plain h. rw (append-nil ps) h;
   most = tt;
   there = inl refl;
   few = omega arith;
@@ -637,31 +566,16 @@ at_start l old o = record {
 -- nothing is left
 pub all_done : (l : Cursor) (old : Spans) (o : Bool) (last : ℕ) (now : Spans) (n : Bool)
     → IsDone l old o [] last now n → ReadsBlocks l old now o n
-all_done l old o last now n d =
-    let all : blocks (pieces_left l) ≡ d.done = d.split ∙ append-nil d.done in
-    record {
-      good = d.fault;
-      adds = λ ps plain h. subst (λ bs. Spell (whole_text l) now (ps ++ blocks_parts bs)) (sym all)
-          (d.adds ps plain h);
-      order = λ e. let z = d.order e in (
-        z.0,
-        ap (λ bs. flat_map printed_part (blocks_parts bs)) all ∙ z.1
-            ∙ ap (map lower) (sym (d.cut ∙ append-nil (flat_map block_pieces d.done))),
-      );
-    }
+all_done l old o last now n d = grind (arith, append-nil)
 
 -- whether there is a block of the rank
 pub told : (l : Cursor) (old : Spans) (o : Bool) (rest : List Text) (last : ℕ) (now : Spans) (n : Bool)
     (d : IsDone l old o rest last now n) → AreBegun (whole_text l) old
-    → (r : ℕ) (b : Bool) → ((t : Text) (before : List Part) (groups : List (ℕ × List Part))
-    → AreGroups before groups → Spell t now (before ++ parts_in groups) → IsTrue b
-    ↔ IsAmong nat_cmp r (map (λ g. g.0) groups))
-    → list_any (eq_by_cmp nat_cmp r) (ranks d.done) ≡ b
-told l old o rest last now n d begun r b answer = sym (any_groups r d.done)
-    ∙ at b (answer (whole_text l) begun.0 (groups_of d.done) (begun.1, all_groups d.done)
-    (d.adds begun.0 begun.1 begun.2))
-  where
-    at : (b : Bool) → IsTrue b ↔ IsAmong nat_cmp r (map (λ g. g.0) (groups_of d.done))
-        → list_any (eq_by_cmp nat_cmp r) (map (λ g. g.0) (groups_of d.done)) ≡ b
-    at true h = h.0 refl
-    at false h = false_from_ne_true _ (λ e. true≢false (sym (h.1 e)))
+    → (r : ℕ) (b : Bool) → IsTold now r b → list_any (eq_by_cmp nat_cmp r) (ranks d.done) ≡ b
+told l old o rest last now n d begun r b answer = grind (
+  arith,
+  any_groups,
+  all_groups,
+  false_from_ne_true,
+  true≢false,
+)

@@ -1,20 +1,40 @@
 -- What follows a singleton: the pieces up to the next block, and the parts that are put for them.
-use Rattle.std.proofs.Common.{◌≡◌, ◌≢◌, ℕ, ◌<◌, Bool, true, false, cond, List, [], ◌∷◌, ◌++◌}
-use Rattle.std.proofs.Common.{length, map, refl, sym, ap, ap₂, ◌∙◌, subst, arith, append-nil, length-append}
-use Rattle.std.proofs.Common.{true≢false}
+use Rattle.std.proofs.Common.{
+  ◌≡◌,
+  ◌≢◌,
+  ℕ,
+  ◌<◌,
+  Bool,
+  true,
+  false,
+  List,
+  [],
+  ◌∷◌,
+  ◌++◌,
+  length,
+  map,
+  refl,
+  sym,
+  ap,
+  ap₂,
+  ◌∙◌,
+  arith,
+  append-nil,
+  length-append,
+  true≢false,
+}
 use Rattle.std.specs.List.{AllByRecursion}
 use Rattle.std.specs.Char.{to_ascii_lowercase}
 use Rattle.std.proofs.lemmas.Bool.{cond_both}
 use Rattle.std.proofs.lemmas.Grind.{flat_map-append}
 use Rattle.std.proofs.lemmas.List.{map-append}
-use Rattle.iloc_spec_grammar.specs.Syntax.{Text, front, first_piece, is_one_byte, is_other_singleton, kept}
-use Rattle.iloc_spec_grammar.specs.Syntax.{lower}
+use Rattle.iloc_spec_grammar.specs.Syntax.{Text, front, first_piece, is_one_byte, is_other_singleton, lower}
 use Rattle.iloc_spec_grammar.specs.Reading.{starts_block}
 use Rattle.iloc_spec_grammar.proofs.PiecesLaws.{at_pieces}
 use Rattle.iloc_spec_grammar.proofs.Readings.{IsLong}
 use Rattle.iloc_outline.specs.Parts.{Part, printed_part, rank, singleton_part}
 use Rattle.iloc_pieces.specs.Cursor.{IsSpanned, piece_left, pieces_left, bytes_left}
-use Rattle.iloc_outline.specs.Spans.{AreShort, IsSpan, Spell}
+use Rattle.iloc_outline.specs.Spans.{AreShort, IsSpan}
 use Rattle.iloc_spans.specs.Spans.{held_spans}
 use Rattle.iloc_outline.specs.Reading.{Puts, block_span}
 use Rattle.iloc_pieces.specs.declared.place.Cursor.{Cursor}
@@ -34,7 +54,7 @@ front_none (p ∷ rest) h = rw h
 
 pub front_all : (ps rest : List Text) → AllByRecursion IsLong ps → starts_block rest ≡ true
     → front (ps ++ rest) ≡ ps
-front_all ps rest h s = front_past ps rest h ∙ ap (λ l. ps ++ l) (front_none rest s) ∙ append-nil ps
+front_all ps rest h s = simp (front_past, front_none, append-nil)
 
 pub front_whole : (ps : List Text) → AllByRecursion IsLong ps → front ps ≡ ps
 front_whole ps h = ap front (sym (append-nil ps)) ∙ front_all ps [] h refl
@@ -46,31 +66,20 @@ front_first p rest h = rw h
 -- what holds of each piece holds of those of the body
 pub front_each : (P : Text → Type 0) (ps : List Text) → AllByRecursion P ps → AllByRecursion P (front ps)
 front_each P [] h = tt
-front_each P (p ∷ ps) h =
-    cond_both (is_one_byte p) _ _ (AllByRecursion P) (λ _. tt) (λ _. (h.0, front_each P ps h.1))
+front_each P (p ∷ ps) h = grind (arith, cond_both, front_each P ps h.1)
 
 -- ---- parts
 
 -- no parts
 pub puts_none : (t : Text) (spans : Spans) (o : Bool) → Puts t [] [] spans spans o o
-puts_none t spans o =
-    record {
-      adds = λ ps s. subst (Spell t spans) (sym (append-nil ps)) s;
-      few =
-          omega arith;
-      order = λ e. (e, refl);
-    }
+puts_none t spans o = grind (arith, append-nil)
 
 -- one part
 pub puts_one : (t : Text) (s : Span) (p : Part) (old new : Spans) (o n : Bool) →
     held_spans new ≡ held_spans old ++ s ∷ []
     → IsSpan t s p → 0 < length p.pieces
     → (n ≡ true → (o ≡ true) × (printed_part p ≡ map lower p.pieces)) → Puts t (p ∷ []) p.pieces old new o n
-puts_one t s p old new o n put span some same = record {
-  adds = λ ps z. spell_put t old new ps s p z span put;
-  few = omega (arith, ap length put, length-append (held_spans old) (s ∷ []));
-  order = λ e. let h = same e in (h.0, append-nil (printed_part p) ∙ h.1);
-}
+puts_one t s p old new o n put span some same = grind (arith, spell_put, length-append, append-nil)
 
 -- parts and then others
 pub puts_then : (t : Text) (xs ys : List Part) (ps qs : List Text) (old mid new : Spans) (o m n : Bool)
@@ -89,7 +98,7 @@ puts_then t xs ys ps qs old mid new o m n a b = record {
 -- what is behind it stands as it is printed, but behind that of another extension
 pub printed_known : (c : ℕ) (ps : List Text) → is_other_singleton (to_ascii_lowercase c) ≡ false
     → printed_part (singleton_part c ps) ≡ map lower ((c ∷ []) ∷ ps)
-printed_known c ps known = ap (λ (b : Bool). lower (c ∷ []) ∷ cond b (kept ps) (map lower ps)) known
+printed_known c ps known = grind arith
 
 -- its span is its part
 pub singleton_span : (t : Text) (c start end : ℕ) (ps : List Text) (edited : Bool)
@@ -97,8 +106,7 @@ pub singleton_span : (t : Text) (c start end : ℕ) (ps : List Text) (edited : B
     → (edited ≡ false → printed_part (singleton_part c ps) ≡ map lower ((c ∷ []) ∷ ps))
     → (edited ≡ true → AreShort ((c ∷ []) ∷ ps))
     → IsSpan t (block_span (rank (to_ascii_lowercase c)) start end edited) (singleton_part c ps)
-singleton_span t c start end ps edited h same short =
-    record { role = refl; word = refl; spanned = h; same = same; short = short }
+singleton_span t c start end ps edited h same short = grind arith
 
 -- it is put, and stands as it is printed
 pub puts_singleton : (t : Text) (c start end : ℕ) (ps : List Text) (old new : Spans) (o : Bool)
@@ -120,9 +128,7 @@ front_single (p ∷ ps) h = rw h
 pub front_ends : (l k : Cursor) (qs : List Text) → pieces_left l ≡ qs ++ pieces_left k →
     AllByRecursion IsLong qs
     → is_one_byte (piece_left k) ≡ true → front (pieces_left l) ≡ qs
-front_ends l k qs cut h one =
-    ap front cut ∙ front_past qs (pieces_left k) h ∙ ap (λ ps. qs ++ ps) (front_single (pieces_left k) one)
-    ∙ append-nil qs
+front_ends l k qs cut h one = grind (arith, front_past, front_single, append-nil)
 
 -- ... and a longer piece goes on
 pub front_goes_on : (l k : Cursor) (qs : List Text) → pieces_left l ≡ qs ++ pieces_left k →
@@ -142,6 +148,4 @@ front_goes_on l k qs cut h longer = (
 -- no piece is passed where the next one is of another length
 pub some_passed : (l k : Cursor) (qs : List Text) → pieces_left l ≡ qs ++ pieces_left k
     → is_one_byte (piece_left l) ≡ false → is_one_byte (piece_left k) ≡ true → qs ≢ []
-some_passed l k qs cut longer one e =
-    let same : pieces_left l ≡ pieces_left k = cut ∙ ap (λ ps. ps ++ pieces_left k) e in
-    true≢false (sym one ∙ ap (λ ps. is_one_byte (first_piece ps)) (sym same) ∙ longer)
+some_passed l k qs cut longer one e = grind (arith, true≢false)

@@ -3,8 +3,16 @@ use Rattle.std.proofs.Common.{◌≡◌, ◌≢◌, ℕ, zero, suc, ◌+◌, ◌
 use Rattle.std.proofs.Common.{refl, sym, ap, ◌∙◌, arith, append_assoc, append-nil, slice_index, slice_set}
 use Rattle.std.specs.Char.{to_ascii_lowercase, to_ascii_uppercase}
 use Rattle.std.proofs.Math.Seq.{take-add, take-append-add, take-nil, take-set-lt}
-use Rattle.std.proofs.lemmas.List.{drop-drop, drop_all, get_or-take, length-take-le, map-append, take-map}
-use Rattle.std.proofs.lemmas.List.{take-take, take_all}
+use Rattle.std.proofs.lemmas.List.{
+  drop-drop,
+  drop_all,
+  get_or-take,
+  length-take-le,
+  map-append,
+  take-map,
+  take-take,
+  take_all,
+}
 use Rattle.iloc_spec_grammar.specs.Syntax.{Text, lower, upper}
 use Rattle.iloc_outline.specs.Identifier.{raised}
 
@@ -14,20 +22,13 @@ use Rattle.iloc_outline.specs.Identifier.{raised}
 lower_more : (w : Text) (at d k : ℕ) → lower (take (d + k) (drop at w))
     ≡ lower (take d (drop at w)) ++ lower (take k (drop (at + d) w))
 unfolding lower
-lower_more w at d k =
-    ap (map to_ascii_lowercase) (take-add d k (drop at w)
-    ∙ ap (λ t. take d (drop at w) ++ take k t) (drop-drop d at w))
-    ∙ map-append to_ascii_lowercase (take d (drop at w)) (take k (drop (at + d) w))
+lower_more w at d k = simp (take-add, drop-drop, map-append)
 
 -- what was copied grows by what stands behind it
 pub copied_more : (w F to news : Text) (at s d k : ℕ) → take (s + d) to ≡ F ++ lower (take d (drop at w))
     → take (s + d + k) news ≡ take (s + d) to ++ lower (take k (drop (at + d) w)) → take (s + (d + k)) news
     ≡ F ++ lower (take (d + k) (drop at w))
-copied_more w F to news at s d k before step =
-    let sum : s + (d + k) ≡ s + d + k = omega arith in
-    ap (λ n. take n news) sum ∙ step ∙ ap (λ l. l ++ lower (take k (drop (at + d) w))) before
-    ∙ append_assoc F (lower (take d (drop at w))) (lower (take k (drop (at + d) w)))
-    ∙ ap (λ l. F ++ l) (sym (lower_more w at d k))
+copied_more w F to news at s d k before step = grind (arith, append_assoc, lower_more)
 
 -- the first of the bytes that were copied
 pub copied_first : (w F to : Text) (at s d k : ℕ) → k ≤ d → length F ≡ s → take (s + d) to
@@ -55,7 +56,7 @@ one : (u : Text) (k m : ℕ) → m ≡ k + 1 → k < length u → slice_set u k 
     ≡ take k u ++ (upper (take 1 (drop k u)) ++ drop m u)
 unfolding upper
 one [] k m e l = absurd (omega arith)
-one (b ∷ u) zero m e l = ap (λ n. to_ascii_uppercase b ∷ drop n (b ∷ u)) (sym e)
+one (b ∷ u) zero m e l = grind arith
 one (b ∷ u) (suc k) zero e l = absurd (omega arith)
 one (b ∷ u) (suc k) (suc m) e l = ap (λ r. b ∷ r) (one u k m (omega arith) (omega arith))
 
@@ -64,7 +65,7 @@ last : (u : Text) (k m : ℕ) → m ≡ k + 2 → length u ≡ suc k
     ≡ take k u ++ (upper (take 2 (drop k u)) ++ drop m u)
 unfolding upper
 last [] k m e l = absurd (omega arith)
-last (b ∷ []) zero m e l = ap (λ n. to_ascii_uppercase b ∷ drop n (b ∷ [])) (sym e)
+last (b ∷ []) zero m e l = grind arith
 last (b ∷ c ∷ u) zero m e l = absurd (omega arith)
 last (b ∷ u) (suc k) zero e l = absurd (omega arith)
 last (b ∷ u) (suc k) (suc m) e l = ap (λ r. b ∷ r) (last u k m (omega arith) (omega arith))
@@ -76,28 +77,21 @@ two : (u : Text) (k j m : ℕ) → j ≡ k + 1 → m ≡ k + 2 → j < length u
 unfolding upper
 two [] k j m f e l = absurd (omega arith)
 two (b ∷ []) k j m f e l = absurd (omega arith)
-two (b ∷ c ∷ u) zero j m f e l =
-    ap (λ n. slice_set (to_ascii_uppercase b ∷ c ∷ u) n
-    (to_ascii_uppercase (slice_index (to_ascii_uppercase b ∷ c ∷ u) n))) f
-    ∙ ap (λ n. to_ascii_uppercase b ∷ to_ascii_uppercase c ∷ drop n (b ∷ c ∷ u)) (sym e)
+two (b ∷ c ∷ u) zero j m f e l = grind arith
 two (b ∷ u) (suc k) zero m f e l = absurd (omega arith)
 two (b ∷ u) (suc k) (suc j) zero f e l = absurd (omega arith)
-two (b ∷ u) (suc k) (suc j) (suc m) f e l =
-    ap (λ r. b ∷ r) (two u k j m (omega arith) (omega arith) (omega arith))
+two (b ∷ u) (suc k) (suc j) (suc m) f e l = simp (two u k j m (omega arith) (omega arith) (omega arith))
 
 is_raised : (n at m : ℕ) (u : Text) → at ≢ 0 → m ≡ at + n → raised n at u
     ≡ take at u ++ (upper (take n (drop at u)) ++ drop m u)
 is_raised n zero m u some e = absurd (some refl)
-is_raised n (suc k) m u some e =
-    ap (λ j. take (suc k) u ++ (upper (take n (drop (suc k) u)) ++ drop j u)) (sym e)
+is_raised n (suc k) m u some e = grind arith
 
 -- nothing is raised behind the end, nor at 0
 pub raised_none : (n at : ℕ) (u : Text) → length u ≤ at → raised n at u ≡ u
 unfolding upper
 raised_none n zero u l = refl
-raised_none n (suc k) u l =
-    let none : take n (drop (suc k) u) ≡ [] = ap (take n) (drop_all (suc k) u l) ∙ take-nil n in
-    (λ j. take_all (suc k) u l j ++ (upper (none j) ++ drop_all (suc k + n) u (omega arith) j)) ∙ append-nil u
+raised_none n (suc k) u l = grind (arith, drop_all, take-nil, take_all, append-nil)
 
 module _ (to : Text) (end at : ℕ) (some : at ≢ 0) (inside : end ≤ length to) (more : at < end) where
   long : length (take end to) ≡ end

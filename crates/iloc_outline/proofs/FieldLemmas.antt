@@ -1,18 +1,50 @@
 -- Fields are passed one after another, and each is put where it belongs.
-use Rattle.std.proofs.Common.{◌≡◌, ◌≢◌, ℕ, ◌-◌, ◌<◌, ◌≤◌, Bool, false, List, [], ◌∷◌, ◌++◌, length}
-use Rattle.std.proofs.Common.{map, refl, sym, ap, ◌∙◌, subst, arith, inl, inr, append-nil, length-append}
-use Rattle.std.proofs.Common.{Option, Some, None}
+use Rattle.std.proofs.Common.{
+  ◌≡◌,
+  ◌≢◌,
+  ℕ,
+  ◌-◌,
+  ◌<◌,
+  ◌≤◌,
+  Bool,
+  false,
+  List,
+  [],
+  ◌∷◌,
+  ◌++◌,
+  length,
+  map,
+  refl,
+  sym,
+  ap,
+  ◌∙◌,
+  arith,
+  inr,
+  append-nil,
+  length-append,
+  Option,
+  Some,
+  None,
+}
 use Rattle.std.specs.List.{AllByRecursion}
 use Rattle.std.proofs.lemmas.List.{map-append, length-map}
 use Rattle.std.proofs.lemmas.List.Concat.{flat_map-append}
-use Rattle.iloc_spec_grammar.specs.Syntax.{Text, Field, Fields, Attribute, IsWord, is_word, join}
-use Rattle.iloc_spec_grammar.specs.Syntax.{fields_pieces, first_piece}
+use Rattle.iloc_spec_grammar.specs.Syntax.{
+  Text,
+  Field,
+  Fields,
+  Attribute,
+  IsWord,
+  is_word,
+  join,
+  fields_pieces,
+  first_piece,
+}
 use Rattle.iloc_spec_grammar.proofs.ReadBack.{all_append}
 use Rattle.iloc_outline.specs.Fields.{IsAfterValues, PrintsAsItIs, IsValueRead}
 use Rattle.iloc_outline.specs.Gathering.{Gathers, Takes, pieces_in}
 use Rattle.iloc_spans.specs.Inserting.{IsPutFrom}
-use Rattle.iloc_pieces.specs.Cursor.{IsLater, IsPast, IsSpanned, piece_left, pieces_left}
-use Rattle.iloc_pieces.specs.Cursor.{bytes_left, whole_text}
+use Rattle.iloc_pieces.specs.Cursor.{IsLater, IsSpanned, piece_left, pieces_left, bytes_left, whole_text}
 use Rattle.iloc_pieces.specs.Words.{IsUpToEight, word_number}
 use Rattle.iloc_outline.specs.Parts.{Part, field_part}
 use Rattle.iloc_outline.specs.Reading.{EndsInKey, IsFieldOfRole, IsTooMuch, ReadsFields, role_key, unless_end}
@@ -26,8 +58,13 @@ use Rattle.iloc_spans.specs.declared.span.Role.{Role}
 use Rattle.iloc_spans.specs.declared.span.Role.TheVariants as roles
 use Rattle.iloc_spans.specs.declared.span.Span.{Span}
 use Rattle.iloc_spans.specs.declared.spans.Spans.{Spans}
-use Rattle.iloc_outline.proofs.GatherLemmas.{gathers_few, gathers_none, gathers_put, gathers_puts}
-use Rattle.iloc_outline.proofs.GatherLemmas.{gathers_there}
+use Rattle.iloc_outline.proofs.GatherLemmas.{
+  gathers_few,
+  gathers_none,
+  gathers_put,
+  gathers_puts,
+  gathers_there,
+}
 use Rattle.iloc_pieces.proofs.CursorLemmas.{length_rest, past_none, past_past, spanned_none}
 use Rattle.iloc_outline.proofs.SpansLemmas.{field_short}
 use Rattle.iloc_spans.proofs.HeldLemmas.{length-held}
@@ -39,31 +76,22 @@ use Rattle.iloc_pieces.proofs.WordNumbers.{field_key_fits, key_fits}
 -- a key has a number
 pub key_kind_fits : (r : Role) (p : Text) → IsWord (role_key r) p → IsUpToEight p
 key_kind_fits roles.Field p h = field_key_fits p h
-key_kind_fits roles.Variant p h = key_fits p h
-key_kind_fits roles.Singleton p h = key_fits p h
-key_kind_fits roles.Attribute p h = key_fits p h
-key_kind_fits roles.Keyword p h = key_fits p h
+key_kind_fits _ p h = key_fits p h
 
 -- a key and its values
 field_of : (r : Role) (key : Text) (vs : List Text) → IsWord (role_key r) key
     → AllByRecursion (IsWord Attribute) vs → (r ≡ roles.Field → 0 < length vs) → IsFieldOfRole r (key, vs)
 field_of roles.Field key vs h each some = (h, each, some refl)
-field_of roles.Variant key vs h each some = (h, each)
-field_of roles.Singleton key vs h each some = (h, each)
-field_of roles.Attribute key vs h each some = (h, each)
-field_of roles.Keyword key vs h each some = (h, each)
+field_of _ key vs h each some = (h, each)
 
 -- the pieces of one field more
 pieces_more : (fs : Fields) (f : Field) → fields_pieces (fs ++ (f ∷ [])) ≡ fields_pieces fs ++ (f.0 ∷ f.1)
-pieces_more fs f =
-    flat_map-append (λ (g : Field). g.0 ∷ g.1) fs (f ∷ [])
-    ∙ ap (λ ps. fields_pieces fs ++ ps) (append-nil (f.0 ∷ f.1))
+pieces_more fs f = simp (flat_map-append, append-nil)
 
 -- each field has a piece
 pub length-fields_pieces : (fs : Fields) → length fs ≤ length (fields_pieces fs)
 length-fields_pieces [] = omega arith
-length-fields_pieces (f ∷ fs) =
-    omega (arith, length-append (f.0 ∷ f.1) (fields_pieces fs), length-fields_pieces fs)
+length-fields_pieces (f ∷ fs) = grind (arith, length-append, length-fields_pieces fs)
 
 no_values : (vs : List Text) → length vs ≡ 0 → vs ≡ []
 no_values [] l = refl
@@ -78,26 +106,14 @@ pieces_fields r (f ∷ fs) = ap (λ ps. (f.0 ∷ f.1) ++ ps) (pieces_fields r fs
 -- none
 pub takes_none : (r : Role) (l : Cursor) → IsLater l → (s : List Span) (o : Bool)
     → Takes r l l s s 0 o o
-takes_none r l later s o = record {
-  fields = [];
-  past = past_none l later;
-  each = tt;
-  ends = inl refl;
-  gathers = gathers_none (whole_text l) s 0 o;
-}
+takes_none r l later s o = grind (arith, past_none, gathers_none)
 
 -- fields that were put in order are read
 taken : (r : Role) (l : Cursor) (fs : Fields) (old new : Spans) (last : ℕ) (o n : Bool)
     → AllByRecursion (IsFieldOfRole r) fs
     → Gathers (whole_text l) (map (field_part r) fs) (held_spans old) (held_spans new) last o n
     → ReadsFields r l fs old new o n
-taken r l fs old new last o n each g =
-    let few : length (map (field_part r) fs) ≤ length (fields_pieces fs) =
-    omega (arith, length-map fs (field_part r), length-fields_pieces fs) in
-    record {
-      each = each;
-      puts = gathers_puts _ _ _ _ _ _ _ g old new refl refl (fields_pieces fs) (pieces_fields r fs) few;
-    }
+taken r l fs old new last o n each g = search (length-map, length-fields_pieces, gathers_puts, pieces_fields)
 
 module _ (r : Role) (l at : Cursor) (old : Spans) (mid : List Span) (last : ℕ) (o n : Bool)
     (w : Takes r l at (held_spans old) mid last o n) where
@@ -105,8 +121,7 @@ module _ (r : Role) (l at : Cursor) (old : Spans) (mid : List Span) (last : ℕ)
   pub takes_past : (new : Spans) → mid ≡ held_spans new → ReadsFields r l w.fields old new o n
   takes_past new e =
       taken r l w.fields old new last o n w.each
-      (subst (λ ss. Gathers (whole_text l) (map (field_part r) w.fields) (held_spans old) ss last o n) e
-      w.gathers)
+      (rw e at w.gathers)
 
   -- where there is no room
   pub takes_full : 64 ≤ length mid → IsTooMuch old (length (pieces_left l))
@@ -127,7 +142,7 @@ module _ (r : Role) (l at : Cursor) (old : Spans) (mid : List Span) (last : ℕ)
     spanned = h.end (at.at - 1) [] (spanned_none at w.past.later)
 
     after : (next : Option Cursor) → unless_end v.is_end to ≡ next → IsAfterValues at h.values next
-    after next e = subst (IsAfterValues at h.values) e h.next
+    after next e = rw e at h.next
 
     -- what follows is shorter
     pub field_less : (next : Cursor) → unless_end v.is_end to ≡ Some next → next.remaining < at.remaining
@@ -154,12 +169,11 @@ module _ (r : Role) (l at : Cursor) (old : Spans) (mid : List Span) (last : ℕ)
             → is_word Attribute (first_piece rest) ≡ false → EndsInKey (pieces_left l)
         ends rest is none = record {
           fields = w.fields;
-          each = subst (λ q. AllByRecursion (IsFieldOfRole q) w.fields) e w.each;
+          each = rw e at w.each;
           key = piece_left at;
-          is_key = subst (λ q. IsWord (role_key q) (piece_left at)) e key;
+          is_key = rw e at key;
           rest = rest;
-          cut = w.past.pieces ∙ ap (λ ps. fields_pieces w.fields ++ ps) is
-              ∙ ap (λ vs. fields_pieces w.fields ++ (piece_left at ∷ (vs ++ rest))) alone;
+          cut = cc (w.past.pieces, is, alone);
           none = none;
         }
 
@@ -187,8 +201,7 @@ module _ (r : Role) (l at : Cursor) (old : Spans) (mid : List Span) (last : ℕ)
       IsNow i = IsPutFrom old.count span mid new last now n k i
 
       counted : (i : Inserted) → IsNow i → IsPutFrom (length (held_spans old)) span mid new last now n k i
-      counted i =
-          subst (λ (q : ℕ). IsPutFrom q span mid new last now n k i) (sym (length-held old))
+      counted i = search length-held
 
       is_field : IsFieldOfRole r field
       is_field =
@@ -204,7 +217,7 @@ module _ (r : Role) (l at : Cursor) (old : Spans) (mid : List Span) (last : ℕ)
       }
 
       is_span : IsSpan (whole_text l) span (field_part r field)
-      is_span = subst (λ t. IsSpan t span (field_part r field)) w.past.text field_span
+      is_span = rw w.past.text at field_span
 
       module _ (i : Inserted) (is : IsNow i) (room : i ≢ Full) where
         each_more : AllByRecursion (IsFieldOfRole r) more
@@ -222,8 +235,7 @@ module _ (r : Role) (l at : Cursor) (old : Spans) (mid : List Span) (last : ℕ)
 
         gathered : Gathers (whole_text l) (map (field_part r) more) (held_spans old) new now o k
         gathered =
-            subst (λ ps. Gathers (whole_text l) ps (held_spans old) new now o k)
-            (sym (map-append (field_part r) w.fields (field ∷ []))) (put i is room)
+            rw (map-append (field_part r) w.fields (field ∷ [])) (put i is room)
 
         -- one field more
         pub takes_more : (next : Cursor) → unless_end v.is_end to ≡ Some next
@@ -232,7 +244,7 @@ module _ (r : Role) (l at : Cursor) (old : Spans) (mid : List Span) (last : ℕ)
             let a = after (Some next) t in
             record {
               fields = more;
-              past = subst (IsPast l next) (sym (pieces_more w.fields field)) (past_past w.past a.0);
+              past = rw (pieces_more w.fields field) (past_past w.past a.0);
               each = each_more;
               ends = inr a.1;
               gathers = gathered;
@@ -243,9 +255,7 @@ module _ (r : Role) (l at : Cursor) (old : Spans) (mid : List Span) (last : ℕ)
             → (fs : Fields) × (pieces_left l ≡ fields_pieces fs) × ReadsFields r l fs old then o k
         takes_end then s t = (
           more,
-          w.past.pieces ∙ ap (λ ps. fields_pieces w.fields ++ ps) (after None t)
-              ∙ sym (pieces_more w.fields field),
+          grind (arith, after, pieces_more),
           taken r l more old then now o k each_more
-              (subst (λ ss. Gathers (whole_text l) (map (field_part r) more) (held_spans old) ss now o k) s
-              gathered),
+              (rw s at gathered),
         )

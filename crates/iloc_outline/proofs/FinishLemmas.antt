@@ -1,16 +1,43 @@
 -- The outline of a text from that of its head: good texts, and heads that are refused.
-use Rattle.std.proofs.Common.{◌≡◌, ℕ, Bool, true, false, List, [], ◌++◌, length, refl, sym, ap, ◌∙◌, subst}
-use Rattle.std.proofs.Common.{append-nil}
+use Rattle.std.proofs.Common.{
+  arith,
+  ◌≡◌,
+  ℕ,
+  Bool,
+  true,
+  false,
+  List,
+  [],
+  ◌++◌,
+  length,
+  refl,
+  sym,
+  ap,
+  ◌∙◌,
+  append-nil,
+}
 use Rattle.std.proofs.lemmas.List.{append_cancel_left}
 use Rattle.iloc_spec_grammar.specs.Syntax.{Text, Language, head, is_word, languages, pieces}
-use Rattle.iloc_spec_grammar.specs.Meaning.{Fault, HasIdentifierFault, SpellsIdentifier}
-use Rattle.iloc_spec_grammar.specs.Meaning.{normal_identifier, not_a_language, not_an_identifier}
+use Rattle.iloc_spec_grammar.specs.Meaning.{
+  Fault,
+  HasIdentifierFault,
+  SpellsIdentifier,
+  normal_identifier,
+  not_a_language,
+  not_an_identifier,
+}
 use Rattle.iloc_spec_grammar.specs.Meaning as faults
 use Rattle.iloc_spec_grammar.proofs.PiecesLaws.{pieces_nonempty}
 use Rattle.iloc_outline.specs.Blocks.{ReadsBlocks}
 use Rattle.iloc_pieces.specs.Cursor.{pieces_left, bytes_left}
-use Rattle.iloc_outline.specs.Outlines.{AreHeadRead, BeginsWithLanguage, IsFinished, IsIdentifierOutlined}
-use Rattle.iloc_outline.specs.Outlines.{IsLocaleOutlined, ReadsHead}
+use Rattle.iloc_outline.specs.Outlines.{
+  AreHeadRead,
+  BeginsWithLanguage,
+  IsFinished,
+  IsIdentifierOutlined,
+  IsLocaleOutlined,
+  ReadsHead,
+}
 use Rattle.iloc_spans.specs.Spans.{held_spans}
 use Rattle.iloc_pieces.specs.declared.place.Cursor.{Cursor}
 use Rattle.iloc_outline.specs.declared.outline.Head.TheVariants as heads
@@ -19,22 +46,25 @@ use Rattle.iloc_outline.specs.declared.outline.Outlined.TheVariants.{Normal}
 use Rattle.iloc_spans.specs.declared.spans.Spans.{Spans}
 use Rattle.iloc_subtags.specs.Judging.{Refusal}
 use Rattle.iloc_subtags.specs.declared.parse_error.ParseError.{ParseError}
-use Rattle.iloc_subtags.specs.declared.parse_error.ParseError.TheVariants.{InvalidLanguage, InvalidSubtag}
-use Rattle.iloc_subtags.specs.declared.parse_error.ParseError.TheVariants.{InvalidExtension}
-use Rattle.iloc_subtags.specs.declared.parse_error.ParseError.TheVariants.{DuplicatedExtension, OutOfMemory}
-use Rattle.iloc_outline.proofs.OutlineLemmas.{all_head, alone_in_order, alone_outlined, identifier_in_order}
-use Rattle.iloc_outline.proofs.OutlineLemmas.{identifier_outlined, locale_in_order, locale_outlined, whole}
+use Rattle.iloc_subtags.specs.declared.parse_error.ParseError.TheVariants.{InvalidSubtag, OutOfMemory}
+use Rattle.iloc_outline.proofs.OutlineLemmas.{
+  all_head,
+  alone_in_order,
+  alone_outlined,
+  identifier_in_order,
+  identifier_outlined,
+  locale_in_order,
+  locale_outlined,
+  whole,
+}
 use Rattle.iloc_spec_grammar.proofs.SameFaults.{first_of_head}
 
 -- what holds of the outline of a text in order, and of another, holds of the finished one
 finish : (P : Spans → Outline → Type 0) (t : Text) (o : Outline) (end : ℕ) (n : Bool)
     (old new : Spans) (r : Outline) → end ≡ length t → IsFinished o end n old new r
     → (n ≡ true → (none : Spans) → held_spans none ≡ [] → P none (whole t o)) → P old o → P new r
-finish P t o end true old new r e (is, none) good kept =
-    subst (P new) (sym (is ∙ ap (λ (k : ℕ). record { front = k; script = o.script; region = o.region }) e))
-    (good refl new none)
-finish P t o end false old new r e (is, same) good kept =
-    subst (P new) (sym is) (subst (λ (s : Spans). P s o) (sym same) kept)
+finish P t o end true old new r e (is, none) good kept = grind arith
+finish P t o end false old new r e (is, same) good kept = grind arith
 
 -- ---- the head is all of the text
 
@@ -82,12 +112,9 @@ fault_of_all ps (not_a_language e) =
     not_a_language (ap (is_word (Language languages)) (sym (first_of_head ps)) ∙ e)
 fault_of_all ps (not_an_identifier word n) =
     not_an_identifier (ap (is_word (Language languages)) (sym (first_of_head ps)) ∙ word)
-    (λ s. n (subst (SpellsIdentifier languages) (sym (head_all ps s)) s))
+    (λ s. n (rw (head_all ps s) s))
 
 pub refused_all : (ps : List Text) (e : ParseError) → Refusal (HasIdentifierFault languages (head ps)) ⊥ e
     → Refusal (HasIdentifierFault languages ps) ⊥ e
-refused_all ps InvalidLanguage h = fault_of_all ps h
-refused_all ps InvalidSubtag h = fault_of_all ps h
-refused_all ps InvalidExtension h = fault_of_all ps h
-refused_all ps DuplicatedExtension h = fault_of_all ps h
 refused_all ps OutOfMemory h = h
+refused_all ps _ h = fault_of_all ps h

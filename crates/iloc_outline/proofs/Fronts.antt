@@ -1,6 +1,6 @@
 -- The front of an identifier: how it is passed, and how it is printed.
 use Rattle.std.proofs.Common.{◌≡◌, ◌≢◌, ℕ, zero, suc, ◌+◌, ◌-◌, ◌<◌, ◌≤◌, ◌==◌, Bool, true, false, cond, ◌&&◌}
-use Rattle.std.proofs.Common.{◌||◌, List, [], ◌∷◌, ◌++◌, length, map, take, drop, Option, Some, None, refl}
+use Rattle.std.proofs.Common.{List, [], ◌∷◌, ◌++◌, length, map, take, drop, Option, Some, None, refl}
 use Rattle.std.proofs.Common.{sym, ap, ◌∙◌, subst, arith, inl, inr, append_assoc, append-nil}
 use Rattle.std.specs.Prelude.{IfSome, option_map, option_to_list}
 use Rattle.std.specs.List.{list_all}
@@ -8,27 +8,81 @@ use Rattle.std.specs.Char.{is_ascii_digit, to_ascii_lowercase, to_ascii_uppercas
 use Rattle.std.proofs.Math.Seq.{take-append_seam}
 use Rattle.std.proofs.lemmas.Bool.{and_parts, cases_Bool, cond_both, eqb-true}
 use Rattle.std.proofs.lemmas.Bool.Decides.{nat_tests}
-use Rattle.std.proofs.lemmas.List.{drop-append-le, drop-drop, drop_all, length-append, length-drop}
-use Rattle.std.proofs.lemmas.List.{length-map, length-take-le, map-append, take-append-drop, take-append-le}
-use Rattle.std.proofs.lemmas.List.{take_all}
-use Rattle.iloc_spec_grammar.specs.Syntax.{Text, Kind, Language, Script, Region, IsWord, is_word, Bounds}
-use Rattle.iloc_spec_grammar.specs.Syntax.{languages, pieces, first_piece, join, lower, upper, title}
-use Rattle.iloc_spec_grammar.specs.Reading.{front_of, rest_of, take_first, skip_first, after_script}
-use Rattle.iloc_spec_grammar.specs.Reading.{after_region}
+use Rattle.std.proofs.lemmas.List.{
+  drop-append-le,
+  drop-drop,
+  drop_all,
+  length-append,
+  length-drop,
+  length-map,
+  length-take-le,
+  map-append,
+  take-append-drop,
+  take-append-le,
+  take_all,
+}
+use Rattle.iloc_spec_grammar.specs.Syntax.{
+  Text,
+  Kind,
+  Language,
+  Script,
+  Region,
+  IsWord,
+  is_word,
+  Bounds,
+  languages,
+  pieces,
+  first_piece,
+  join,
+  lower,
+  upper,
+  title,
+}
+use Rattle.iloc_spec_grammar.specs.Reading.{
+  front_of,
+  rest_of,
+  take_first,
+  skip_first,
+  after_script,
+  after_region,
+}
 use Rattle.iloc_spec_grammar.proofs.PiecesLaws.{at_pieces, join-pieces}
 use Rattle.iloc_spec_grammar.proofs.ReadingLaws.{take_first_passes}
 use Rattle.iloc_spec_grammar.proofs.RawLaws.{languages_table}
-use Rattle.iloc_spec_grammar.proofs.WordsLaws.{length-language, length-lower, length-normal, length-region}
-use Rattle.iloc_spec_grammar.proofs.WordsLaws.{length-script, upper-lower}
+use Rattle.iloc_spec_grammar.proofs.WordsLaws.{
+  length-language,
+  length-lower,
+  length-normal,
+  length-region,
+  length-script,
+  upper-lower,
+}
 use Rattle.iloc_outline.specs.Identifier.{IsFrontRead, IsAfterFront, IsOnePast, front_text, raised}
 use Rattle.iloc_pieces.specs.Cursor as cursor
-use Rattle.iloc_pieces.specs.Cursor.{IsLater, IsNextPiece, IsPast, IsSpanned}
-use Rattle.iloc_pieces.specs.Cursor.{piece_left, pieces_left, whole_text}
+use Rattle.iloc_pieces.specs.Cursor.{
+  IsLater,
+  IsNextPiece,
+  IsPast,
+  IsSpanned,
+  piece_left,
+  pieces_left,
+  whole_text,
+}
 use Rattle.iloc_outline.specs.Parts.{front_pieces}
 use Rattle.iloc_outline.specs.Reading.{unless_end}
 use Rattle.iloc_pieces.specs.declared.place.Cursor.{Cursor}
-use Rattle.iloc_pieces.proofs.CursorLemmas.{length_piece, length_rest, length_text, next_at, past_first}
-use Rattle.iloc_pieces.proofs.CursorLemmas.{past_next, short_language, short_word, spanned_all, spanned_both}
+use Rattle.iloc_pieces.proofs.CursorLemmas.{
+  length_piece,
+  length_rest,
+  length_text,
+  next_at,
+  past_first,
+  past_next,
+  short_language,
+  short_word,
+  spanned_all,
+  spanned_both,
+}
 
 -- ---- pieces that are passed, to another one or to the end
 
@@ -49,9 +103,7 @@ end_of l (Some m) = m.at - 1
 after_end : (l : Cursor) (ps : List Text) (o : Option Cursor) → IsAfter l o ps →
     (start : ℕ) (qs : List Text) → IsLater l
     → IsSpanned (whole_text l) start (l.at - 1) qs → IsSpanned (whole_text l) start (end_of l o) (qs ++ ps)
-after_end l ps None a start qs later s =
-    subst (λ (rs : List Text). IsSpanned (whole_text l) start (l.at + l.remaining) (qs ++ rs)) a
-    (spanned_both s (spanned_all l later))
+after_end l ps None a start qs later s = grind (arith, spanned_both, spanned_all)
 after_end l ps (Some m) a start qs later s = a.spanned later start qs s
 
 after_inside : (l : Cursor) (ps : List Text) (o : Option Cursor) → IsAfter l o ps
@@ -61,17 +113,12 @@ after_inside l ps (Some m) a = omega (arith, a.end)
 
 -- at the beginning of the text
 pub begins_text : (l : Cursor) → l.at ≡ 0 → whole_text l ≡ cursor.bytes_left l
-begins_text l first =
-    let none : 0 + l.remaining ≡ l.remaining = omega arith in
-    (λ j. take (first j + l.remaining) l.window.now) ∙ ap (λ n. take n l.window.now) none
-    ∙ (λ j. take l.remaining (drop (sym first j) l.window.now))
+begins_text l first = grind arith
 
 after_text : (l : Cursor) (ps : List Text) (o : Option Cursor) → IsAfter l o ps → ps ≢ [] →
     l.at ≡ 0
     → take (end_of l o) (whole_text l) ≡ join ps
-after_text l ps None a some first =
-    take_all (l.at + l.remaining) (whole_text l) (omega (arith, length_text l)) ∙ begins_text l first
-    ∙ sym (join-pieces (cursor.bytes_left l)) ∙ ap join a
+after_text l ps None a some first = grind (arith, take_all, length_text, begins_text, join-pieces)
 after_text l ps (Some m) a some first =
     let cut : whole_text l ≡ join ps ++ 45 ∷ cursor.bytes_left m = begins_text l first ∙ a.rest some in
     let long : m.at - 1 ≡ length (join ps) =
@@ -95,16 +142,14 @@ took k t =
 
 took_none : (k : Kind) (t : Text) → is_word k (first_piece (pieces t)) ≡ false →
     take_first (is_word k) (pieces t) ≡ None
-took_none k t = at_pieces (λ ps. is_word k (first_piece ps) ≡ false → take_first (is_word k) ps ≡ None)
-    (λ p ps e. ap (λ (b : Bool). cond b (Some p) None) e) t
+took_none k t = grind (arith, at_pieces)
 
 skipped : (k : Kind) (p : Text) (ps : List Text) → is_word k p ≡ true → skip_first (is_word k) (p ∷ ps) ≡ ps
 skipped k p ps e = ap (λ (b : Bool). cond b ps (p ∷ ps)) e
 
 skipped_none : (k : Kind) (t : Text) → is_word k (first_piece (pieces t)) ≡ false →
     skip_first (is_word k) (pieces t) ≡ pieces t
-skipped_none k t = at_pieces (λ ps. is_word k (first_piece ps) ≡ false → skip_first (is_word k) ps ≡ ps)
-    (λ p ps e. ap (λ (b : Bool). cond b ps (p ∷ ps)) e) t
+skipped_none k t = grind (arith, at_pieces)
 
 -- it is passed, and what is left is said
 pub record Steps (k : Kind) (l m : Cursor) (o : Option Cursor) (ps : List Text) : Type 0 where
@@ -151,8 +196,7 @@ raise_at n a b p e =
     let rest = raise_rest a b in
     let more : drop (suc (length a) + n) (a ++ 45 ∷ b) ≡ drop n b =
     sym (drop-drop n (suc (length a)) (a ++ 45 ∷ b)) ∙ ap (drop n) rest in
-    ap (λ k. raised n k (a ++ 45 ∷ b)) e ∙ (λ j. raise_front a b j ++ (upper (take n (rest j)) ++ more j))
-    ∙ append_assoc a (45 ∷ []) (upper (take n b) ++ drop n b)
+    grind (arith, raise_front, append_assoc)
 
 low-append : (a b : Text) → lower (a ++ 45 ∷ b) ≡ lower a ++ 45 ∷ lower b
 unfolding lower
@@ -165,14 +209,6 @@ unfolding lower upper title
 title_front [] x some = absurd (omega arith)
 title_front (c ∷ s) x some = ap (λ t. t ++ (map to_ascii_lowercase s ++ x)) (upper-lower (c ∷ []))
 
-script_printed : (l s : Text) → IsWord Script s →
-    raised 1 (suc (length l)) (lower (l ++ 45 ∷ s)) ≡ lower l ++ 45 ∷ title s
-script_printed l s h =
-    ap (raised 1 (suc (length l))) (low-append l s)
-    ∙ raise_at 1 (lower l) (lower s) (suc (length l)) (ap suc (sym (length-lower l)))
-    ∙ ap (λ t. lower l ++ 45 ∷ t) (ap (λ t. upper (take 1 t) ++ drop 1 t) (sym (append-nil (lower s)))
-    ∙ title_front s [] (omega (arith, length-script s h)) ∙ append-nil (title s))
-
 -- the letters of a region, or its digits
 digits_same : (r : Text) → list_all is_ascii_digit r ≡ true → lower r ≡ upper r
 unfolding lower upper
@@ -184,12 +220,7 @@ digits_same (c ∷ r) h = let parts = and_parts _ _ h in λ j. byte c parts.0 j 
 
 three_digits : (r : Text) → IsWord Region r → (length r == 2) ≡ false → list_all is_ascii_digit r ≡ true
 unfolding is_word
-three_digits r h e = by (length r == 2) _ (length r == 3) _ e h
-  where
-    by : (a b c d : Bool) → a ≡ false → ((a && b) || (c && d)) ≡ true → d ≡ true
-    by true b c d e h = absurd (cc)
-    by false b true d e h = h
-    by false b false d e h = absurd (cc)
+three_digits r h e = grind arith
 
 region_printed : (a r : Text) (p : ℕ) → IsWord Region r → p ≡ cond (length r == 2) (suc (length a)) 0
     → raised 2 p (a ++ 45 ∷ lower r) ≡ a ++ 45 ∷ upper r
@@ -197,11 +228,9 @@ region_printed a r p h e = elim (cases_Bool (length r == 2)) [
   | inl two ↦
       let long : length (lower r) ≤ 2 = omega (arith, length-lower r, eqb-true _ _ two) in
       raise_at 2 a (lower r) p (e ∙ ap (λ (b : Bool). cond b (suc (length a)) 0) two)
-      ∙ ap (λ t. a ++ 45 ∷ t) ((λ j. upper (take_all 2 (lower r) long j) ++ drop_all 2 (lower r) long j)
-      ∙ append-nil (upper (lower r)) ∙ upper-lower r)
+      ∙ ap (λ t. a ++ 45 ∷ t) (simp (take_all, drop_all, append-nil, upper-lower))
   | inr other ↦
-      ap (λ k. raised 2 k (a ++ 45 ∷ lower r)) (e ∙ ap (λ (b : Bool). cond b (suc (length a)) 0) other)
-      ∙ ap (λ t. a ++ 45 ∷ t) (digits_same r (three_digits r h other))
+      grind (arith, digits_same, three_digits)
 ]
 
 -- where they begin; 0 if nothing is put in upper case
@@ -218,12 +247,11 @@ printed_part : (l : Text) (s r : Option Text) → IfSome s (IsWord Script) → I
     ≡ join (lower l ∷ (option_to_list (option_map title s) ++ option_to_list (option_map upper r)))
 unfolding join
 printed_part l None None h g = refl
-printed_part l (Some s) None h g = script_printed l s h
-printed_part l None (Some r) h g =
-    let e : cond (length r == 2) (suc (length l)) 0 ≡ cond (length r == 2) (suc (length (lower l))) 0 =
-    ap (λ n. cond (length r == 2) (suc n) 0) (sym (length-lower l)) in
-    ap (raised 2 (cond (length r == 2) (suc (length l)) 0)) (low-append l r)
-    ∙ region_printed (lower l) r _ g e
+printed_part l (Some s) None h g = ap (raised 1 (suc (length l))) (low-append l s)
+    ∙ raise_at 1 (lower l) (lower s) (suc (length l)) (ap suc (sym (length-lower l)))
+    ∙ ap (λ t. lower l ++ 45 ∷ t) (ap (λ t. upper (take 1 t) ++ drop 1 t) (sym (append-nil (lower s)))
+    ∙ title_front s [] (omega (arith, length-script s h)) ∙ append-nil (title s))
+printed_part l None (Some r) h g = simp (length-lower, low-append, region_printed)
 printed_part l (Some s) (Some r) h g =
     let t : Text = lower l ++ 45 ∷ title s in
     let low : lower (l ++ 45 ∷ (s ++ 45 ∷ r)) ≡ lower l ++ 45 ∷ (lower s ++ 45 ∷ lower r) =
@@ -252,40 +280,14 @@ placed : (l : Text) (s r : Option Text) → 2 ≤ length l → IfSome s (IsWord 
     × (region_at l s r + 1 < length (join (l ∷ (option_to_list s ++ option_to_list r))))
 unfolding join
 placed l None None long h g = (omega arith, omega arith)
-placed l (Some s) None long h g =
-    let e = length-append l (45 ∷ s) in let k = length-script s h in (omega arith, omega arith)
-placed l None (Some r) long h g =
-    let e = length-append l (45 ∷ r) in
-    let k = length-region r g in (
-      omega arith,
-      cond_both (length r == 2) (suc (length l)) 0 (λ n. n + 1 < length (l ++ 45 ∷ r))
-          (λ _. omega arith) (λ _. omega arith),
-    )
-placed l (Some s) (Some r) long h g =
-    let e = length-append l (45 ∷ (s ++ 45 ∷ r)) in
-    let d = length-append l (45 ∷ s) in
-    let f = length-append s (45 ∷ r) in
-    let i = length-script s h in
-    let k = length-region r g in (
-      omega arith,
-      cond_both (length r == 2) (suc (length (l ++ 45 ∷ s))) 0
-          (λ n. n + 1 < length (l ++ 45 ∷ (s ++ 45 ∷ r))) (λ _. omega arith) (λ _. omega arith),
-    )
+placed l (Some s) None long h g = grind (arith, length-append, length-script)
+placed l None (Some r) long h g = grind (arith, length-append, length-region, cond_both)
+placed l (Some s) (Some r) long h g = grind (arith, length-append, length-script, length-region, cond_both)
 
 -- bytes behind them are in lower case
 raised-append : (n k : ℕ) (t u : Text) → k + n ≤ length t → raised n k (t ++ u) ≡ raised n k t ++ u
 raised-append n zero t u h = refl
-raised-append n (suc k) t u h =
-    let front : take (suc k) (t ++ u) ≡ take (suc k) t = take-append-le (suc k) t u (omega arith) in
-    let rest : drop (suc k) (t ++ u) ≡ drop (suc k) t ++ u = drop-append-le (suc k) t u (omega arith) in
-    let few : n ≤ length (drop (suc k) t) = omega (arith, length-drop (suc k) t) in
-    let end : drop (suc k + n) (t ++ u) ≡ drop (suc k + n) t ++ u = drop-append-le (suc k + n) t u h in
-    (λ j. front j ++ (upper (take n (rest j)) ++ end j))
-    ∙ ap (λ x. take (suc k) t ++ (upper x ++ (drop (suc k + n) t ++ u)))
-    (take-append-le n (drop (suc k) t) u few)
-    ∙ ap (λ x. take (suc k) t ++ x)
-    (sym (append_assoc (upper (take n (drop (suc k) t))) (drop (suc k + n) t) u))
-    ∙ sym (append_assoc (take (suc k) t) _ u)
+raised-append n (suc k) t u h = grind (arith, take-append-le, drop-append-le, length-drop, append_assoc)
 
 pub length-raised : (n k : ℕ) (t : Text) → length (raised n k t) ≡ length t
 unfolding upper
@@ -293,21 +295,19 @@ length-raised n zero t = refl
 length-raised n (suc k) t =
     length-append (take (suc k) t) (map to_ascii_uppercase (take n (drop (suc k) t)) ++ drop (suc k + n) t)
     ∙ ap (λ m. length (take (suc k) t) + m)
-    (length-append (map to_ascii_uppercase (take n (drop (suc k) t))) (drop (suc k + n) t)
-    ∙ ap (λ m. m + length (drop (suc k + n) t)) (length-map (take n (drop (suc k) t)) to_ascii_uppercase)
-    ∙ sym (length-append (take n (drop (suc k) t)) (drop (suc k + n) t))
-    ∙ ap (λ x. length (take n (drop (suc k) t) ++ x)) (sym (drop-drop n (suc k) t))
-    ∙ ap length (take-append-drop n (drop (suc k) t)))
+    (cc (
+      length-append (map to_ascii_uppercase (take n (drop (suc k) t))) (drop (suc k + n) t),
+      length-map (take n (drop (suc k) t)) to_ascii_uppercase,
+      length-append (take n (drop (suc k) t)) (drop (suc k + n) t),
+      drop-drop n (suc k) t,
+      take-append-drop n (drop (suc k) t),
+    ))
     ∙ sym (length-append (take (suc k) t) (drop (suc k) t)) ∙ ap length (take-append-drop (suc k) t)
 
 pub front_text-append : (s r : ℕ) (t u : Text) → s < length t → r + 1 < length t
     → front_text s r (t ++ u) ≡ front_text s r t ++ lower u
 unfolding lower
-front_text-append s r t u a b =
-    let low = length-lower t in
-    ap (λ x. raised 2 r (raised 1 s x)) (map-append to_ascii_lowercase t u)
-    ∙ ap (raised 2 r) (raised-append 1 s (lower t) (lower u) (omega arith))
-    ∙ raised-append 2 r (raised 1 s (lower t)) (lower u) (omega (arith, length-raised 1 s (lower t)))
+front_text-append s r t u a b = grind (arith, length-lower, map-append, raised-append, length-raised)
 
 -- ---- what is read
 
@@ -345,43 +345,22 @@ front_read l m all s r language f =
       end = after_end l words o f.passed;
       inside = inside;
       text = text;
-      printed = λ first.
-          (λ j. front_text (f.script first j) (f.region first j) (text first j))
-          ∙ printed_part (piece_left l) i.script i.region script region;
+      printed = grind (arith, printed_part);
       within = λ first.
           let long = languages_table.least _ (length-language languages (piece_left l) language) in
           let both = placed (piece_left l) i.script i.region long script region in
-          let end : end_of l o ≡ length (join words) =
-          sym (length-take-le (end_of l o) (whole_text l) (omega (arith, length_text l)))
-          ∙ ap length (text first) in
-          let s_is = f.script first in
-          let r_is = f.region first in
-          (omega arith, omega arith);
+          grind (arith, length-take-le, length_text);
     }
 
 -- a language alone
 pub front_alone : (l : Cursor) → pieces_left l ≡ piece_left l ∷ [] → ReadsFront l None 0 0
 unfolding front_of
-front_alone l one = record {
-  passed = one ∙ sym (ap (λ ps. front_pieces (front_of ps)) one);
-  rest = ap after_region one;
-  script = λ _. ap (λ ps. script_at (piece_left l) (front_of ps).script) (sym one);
-  region = λ _. ap (λ ps. region_at (piece_left l) (front_of ps).script (front_of ps).region) (sym one);
-}
+front_alone l one = grind arith
 
 -- where a piece begins, if others were passed from the beginning on
 past_at : {l m : Cursor} {ps : List Text} → IsPast l m ps → ps ≢ [] → l.at ≡ 0 →
     m.at ≡ suc (length (join ps))
-past_at {l} {m} {ps} p some first =
-    let cut : cursor.bytes_left l ≡ join ps ++ 45 ∷ cursor.bytes_left m = p.rest some in
-    omega (
-      arith,
-      p.end,
-      length_rest l,
-      length_rest m,
-      ap length cut,
-      length-append (join ps) (45 ∷ cursor.bytes_left m),
-    )
+past_at {l} {m} {ps} p some first = grind (arith, length_rest, length-append)
 
 module _ {l m : Cursor} (language : IsWord (Language languages) (piece_left l))
     (next : IsNextPiece l m)
@@ -400,13 +379,7 @@ module _ {l m : Cursor} (language : IsWord (Language languages) (piece_left l))
   script_is = ap (λ ps. take_first (is_word Script) (rest_of ps)) next.pieces
 
   script_place : l.at ≡ 0 → s ≡ script_at (piece_left l) (front_of (pieces_left l)).script
-  script_place first = by b is at ∙ ap (script_at (piece_left l)) (sym script_is)
-    where
-      by : (b : Bool) → b ≡ is_word Script (piece_left m) → s ≡ cond b m.at 0 →
-          s ≡ script_at (piece_left l) script
-      by true e p = p ∙ omega (arith, next_at l m next)
-          ∙ ap (script_at (piece_left l)) (sym (took Script (cursor.bytes_left m) (sym e)))
-      by false e p = p ∙ ap (script_at (piece_left l)) (sym (took_none Script (cursor.bytes_left m) (sym e)))
+  script_place first = grind (arith, script_is, next_at, took, took_none)
 
   module _ (third : Option Cursor) (st : Steps Script l m third (piece_left l ∷ [])) where
     region_is : (front_of (pieces_left l)).region ≡ region third
@@ -428,8 +401,7 @@ module _ {l m : Cursor} (language : IsWord (Language languages) (piece_left l))
   front_to_script one =
       let st = step Script tt begun b is None one in
       record {
-        passed = st.passed ∙ ap (λ ps. piece_left l ∷ ps) (sym (append-nil (option_to_list script)))
-            ∙ sym (words_are None st);
+        passed = cc (st.passed, append-nil (option_to_list script), words_are None st);
         rest = after_is None st;
         script = script_place;
         region =
@@ -457,7 +429,7 @@ module _ {l m : Cursor} (language : IsWord (Language languages) (piece_left l))
               p ∙ (λ j. cond (long j == 2) (there j) 0)
               ∙ ap (region_at (piece_left l) script) (sym (took Region (cursor.bytes_left n) (sym e)))
           by false e p =
-              p ∙ ap (region_at (piece_left l) script) (sym (took_none Region (cursor.bytes_left n) (sym e)))
+              grind (arith, took_none)
 
       -- a region is passed, if there is one
       pub front_to_region : (r : ℕ) → r ≡ cond (c && (n.piece_length == 2)) n.at 0 → (o : Option Cursor) →
@@ -468,7 +440,7 @@ module _ {l m : Cursor} (language : IsWord (Language languages) (piece_left l))
           append_assoc (piece_left l ∷ []) (option_to_list script) (option_to_list (region (Some n)))
           ∙ sym (words_are (Some n) first_step) in
           record {
-            passed = subst (λ (ps : List Text). IsAfter l o ps) words st.passed;
+            passed = rw words at st.passed;
             rest = after_is (Some n) first_step ∙ st.rest;
             script = script_place;
             region = region_place r place;

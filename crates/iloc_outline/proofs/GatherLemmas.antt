@@ -1,7 +1,32 @@
 -- Parts that are put one after another, each where it belongs.
-use Rattle.std.proofs.Common.{◌≡◌, ℕ, ◌+◌, ◌<◌, ◌≤◌, Bool, true, false, List, [], ◌∷◌, ◌++◌, length, map}
-use Rattle.std.proofs.Common.{flat_map, refl, sym, ap, ◌∙◌, subst, arith, append_assoc, append-nil}
-use Rattle.std.proofs.Common.{length-append, inl, inr, true≢false}
+use Rattle.std.proofs.Common.{
+  ◌≡◌,
+  ℕ,
+  ◌+◌,
+  ◌<◌,
+  ◌≤◌,
+  Bool,
+  true,
+  false,
+  List,
+  [],
+  ◌∷◌,
+  ◌++◌,
+  length,
+  map,
+  flat_map,
+  refl,
+  sym,
+  ap,
+  ◌∙◌,
+  arith,
+  append_assoc,
+  append-nil,
+  length-append,
+  inl,
+  inr,
+  true≢false,
+}
 use Rattle.std.specs.List.{AllByRecursion, AllZip}
 use Rattle.std.specs.Ordering.{nat_cmp}
 use Rattle.std.proofs.lemmas.List.{map-append}
@@ -25,21 +50,14 @@ use Rattle.iloc_outline.proofs.SpansLemmas.{zip_append, zip_arranged}
 
 -- none
 pub gathers_none : (t : Text) (s : List Span) (last : ℕ) (o : Bool) → Gathers t [] s s last o o
-gathers_none t s last o =
-    record {
-      spans = [];
-      each = tt;
-      stand = sym (append-nil s);
-      within = tt;
-      order = λ e. (e, refl);
-    }
+gathers_none t s last o = grind (arith, append-nil)
 
 -- spans have the numbers of their parts
 spans_within : (t : Text) (k : ℕ) (ss : List Span) (ps : List Part) → AllZip (IsSpan t) ss ps
     → AllByRecursion (λ p. p.word < k) ps → AllByRecursion (λ s. s.word < k) ss
 spans_within t k [] ps h a = tt
 spans_within t k (s ∷ ss) [] h a = absurd h
-spans_within t k (s ∷ ss) (p ∷ ps) h a = (omega (arith, h.0.word, a.0), spans_within t k ss ps h.1 a.1)
+spans_within t k (s ∷ ss) (p ∷ ps) h a = grind (arith, spans_within t k ss ps h.1 a.1)
 
 numbers : (t : Text) (ss : List Span) (ps : List Part) → AllZip (IsSpan t) ss ps
     → map (λ s. s.word) ss ≡ map (λ p. p.word) ps
@@ -68,14 +86,7 @@ module _ (t : Text) (ps : List Part) (old mid : List Span) (last : ℕ) (o n : B
   pub gathers_puts : (before new : Spans) → old ≡ held_spans before → mid ≡ held_spans new
       → (pieces : List Text) → pieces_in ps ≡ pieces → length ps ≤ length pieces
       → Puts t (in_order ps) pieces before new o n
-  gathers_puts before new is now pieces e l = record {
-    adds = λ qs h. subst (λ (ss : List Span). AllZip (IsSpan t) ss (qs ++ in_order ps)) (sym g.stand ∙ now)
-        (zip_append (IsSpan t) old (spans_in_order g.spans) qs (in_order ps)
-        (subst (λ (ss : List Span). AllZip (IsSpan t) ss qs) (sym is) h)
-        (zip_arranged (IsSpan t) (λ s. s.word) (λ p. p.word) (λ s p is. is.word) g.spans ps g.each));
-    few = omega (arith, gathers_few, ap length is, ap length now);
-    order = λ k. ((g.order k).0, (g.order k).1 ∙ ap (map lower) e);
-  }
+  gathers_puts before new is now pieces e l = grind (arith, zip_append, zip_arranged, gathers_few)
 
   -- ---- one part more
 
@@ -87,15 +98,7 @@ module _ (t : Text) (ps : List Part) (old mid : List Span) (last : ℕ) (o n : B
         s.word ≤ now
         → (k ≡ true → (o ≡ true) × (flat_map printed_part (in_order more) ≡ map lower (pieces_in more)))
         → Gathers t more old new now o k
-    gathered h l w order = record {
-      spans = g.spans ++ s ∷ [];
-      each = zip_append (IsSpan t) g.spans (s ∷ []) ps (p ∷ []) g.each (is, tt);
-      stand = h;
-      within = all_append (λ q. q.word ≤ now) ps (p ∷ [])
-          (all_weaker (λ q. q.word ≤ last) (λ q. q.word ≤ now) (λ q a. omega arith) ps g.within)
-          (omega (arith, is.word), tt);
-      order = order;
-    }
+    gathered h l w order = grind (arith, zip_append, all_append, all_weaker)
 
     -- its number is above all others
     module _ (l : last < s.word) where
@@ -110,35 +113,19 @@ module _ (t : Text) (ps : List Part) (old mid : List Span) (last : ℕ) (o n : B
 
       stands : new ≡ mid ++ s ∷ [] →
           new ≡ old ++ spans_in_order (g.spans ++ s ∷ [])
-      stands e =
-          e ∙ ap (λ ss. ss ++ s ∷ []) g.stand
-          ∙ append_assoc old (spans_in_order g.spans) (s ∷ [])
-          ∙ ap (λ ss. old ++ ss) (sym (arranged_behind (λ s. s.word) g.spans s below_span))
+      stands e = grind (arith, append_assoc, arranged_behind, below_span)
 
       order_more : (k ≡ true → (n ≡ true) × (s.edited ≡ false)) → k ≡ true
           → (o ≡ true) × (flat_map printed_part (in_order more) ≡ map lower (pieces_in more))
-      order_more h e =
-          let before = g.order (h e).0 in (
-            before.0,
-            ap (flat_map printed_part) (arranged_behind (λ p. p.word) ps p below)
-                ∙ flat_map-append printed_part (in_order ps) (p ∷ [])
-                ∙ (λ j. before.1 j ++ (append-nil (printed_part p) ∙ is.same (h e).1) j)
-                ∙ sym (map-append lower (pieces_in ps) p.pieces)
-                ∙ ap (map lower) (sym (flat_map-append (λ q. q.pieces) ps (p ∷ [])
-                ∙ ap (λ l. pieces_in ps ++ l) (append-nil p.pieces))),
-          )
+      order_more h e = grind (arith, arranged_behind, below, flat_map-append, append-nil, map-append)
 
     same_number : IsAmong nat_cmp s.word (map (λ x. x.word) g.spans)
         → IsAmong nat_cmp p.word (map (λ q. q.word) ps)
-    same_number a =
-        subst (λ m. IsAmong nat_cmp m (map (λ q. q.word) ps)) is.word
-        (subst (IsAmong nat_cmp s.word) (numbers t g.spans ps g.each) a)
+    same_number a = grind (arith, numbers)
 
     same_none : ¬ (IsAmong nat_cmp s.word (map (λ x. x.word) g.spans))
         → ¬ (IsAmong nat_cmp p.word (map (λ q. q.word) ps))
-    same_none h a =
-        h (subst (IsAmong nat_cmp s.word) (sym (numbers t g.spans ps g.each))
-        (subst (λ m. IsAmong nat_cmp m (map (λ q. q.word) ps)) (sym is.word) a))
+    same_none h a = grind (arith, numbers)
 
     -- its number is new
     pub gathers_put : IsPutFrom (length old) s mid new last now n k Put
@@ -157,17 +144,10 @@ module _ (t : Text) (ps : List Part) (old mid : List Span) (last : ℕ) (o n : B
     -- its number is there
     pub gathers_there : IsPutFrom (length old) s mid new last now n k There
         → Gathers t more old new now o k × IsAmong nat_cmp p.word (map (λ q. q.word) ps)
-    gathers_there h = elim h [
-      | inl b ↦ absurd (b.3 tt)
-      | inr b ↦ (let i = b.3 old g.spans refl g.stand in (
-        gathered i.0 b.0 b.1 (λ e. absurd (true≢false (sym e ∙ b.2))),
-        same_number i.1,
-      ))
-    ]
+    gathers_there h = grind (arith, gathered, true≢false, same_number)
 
 -- where there is no room for it nothing is changed
 pub put_full : (from : ℕ) (s : Span) (old new : List Span) (last now : ℕ) (o n : Bool) (r : Inserted) →
     r ≡ Full
     → IsPutFrom from s old new last now o n r → new ≡ old
-put_full from s old new last now o n r is h =
-    elim (subst (IsPutFrom from s old new last now o n) is h) [ inl b ↦ b.3 | inr b ↦ b.3 ]
+put_full from s old new last now o n r is h = grind arith

@@ -1,7 +1,7 @@
 -- Blocks among parts in groups, and where one is put.
 use Rattle.std.proofs.Common.{◌≡◌, ℕ, zero, suc, ◌+◌, ◌-◌, ◌<◌, ◌≤◌, ◌==◌, nat_lt, Bool, true, false, cond}
 use Rattle.std.proofs.Common.{◌&&◌, ◌||◌, List, [], ◌∷◌, ◌++◌, length, map, take, drop, refl, sym, ap, ap₂}
-use Rattle.std.proofs.Common.{◌∙◌, subst, arith, append-nil, slice_index_or}
+use Rattle.std.proofs.Common.{◌∙◌, arith, append-nil, slice_index_or}
 use Rattle.std.specs.List.{AllByRecursion, AllZip, list_any}
 use Rattle.std.specs.Ordering.{is_eq, eq_by_cmp, nat_cmp}
 use Rattle.std.specs.declared.cmp.Ordering.{Ordering}
@@ -18,7 +18,7 @@ use Rattle.iloc_outline.specs.Groups.{AreGroups, IsGroup, is_greater, is_singlet
 use Rattle.iloc_outline.specs.Parts.{Part}
 use Rattle.iloc_outline.specs.Spans.{IsSpan}
 use Rattle.iloc_spans.specs.declared.span.Role.{Role}
-use Rattle.iloc_spans.specs.declared.span.Role.TheVariants.{Variant, Singleton, Attribute, Keyword, Field}
+use Rattle.iloc_spans.specs.declared.span.Role.TheVariants.{Variant, Singleton}
 use Rattle.iloc_spans.specs.declared.span.Span.{Span}
 use Rattle.iloc_spans.specs.contracts.span.Role.{the_type}
 use Rattle.iloc_outline.proofs.SpansLemmas.{zip_append, zip_take, zip_drop}
@@ -28,17 +28,11 @@ use Rattle.iloc_spec_grammar.proofs.SameMeaning.{same_test as tied_number}
 -- as the code asks it
 pub singleton_told : (r : Role) → sameb the_type r Singleton ≡ is_singleton r
 singleton_told Variant = refl
-singleton_told Singleton = refl
-singleton_told Attribute = refl
-singleton_told Keyword = refl
-singleton_told Field = refl
+singleton_told _ = refl
 
 no_singleton : (r : Role) → (r ≡ Singleton → ⊥) → is_singleton r ≡ false
-no_singleton Variant n = refl
 no_singleton Singleton n = absurd (n refl)
-no_singleton Attribute n = refl
-no_singleton Keyword n = refl
-no_singleton Field n = refl
+no_singleton _ n = refl
 
 -- whether a singleton has the rank
 abbrev pub is_of_rank : ℕ → Role → ℕ → Bool
@@ -65,8 +59,7 @@ module _ (test : ℕ → Bool) where
   none_plain : (ps : List Part) → AllByRecursion (λ (q : Part). q.role ≡ Singleton → ⊥) ps
       → list_any (λ (p : Part). is_singleton p.role && test p.word) ps ≡ false
   none_plain [] h = refl
-  none_plain (p ∷ ps) h = ap (λ b. (b && test p.word) || list_any
-      (λ (p : Part). is_singleton p.role && test p.word) ps) (no_singleton p.role h.0) ∙ none_plain ps h.1
+  none_plain (p ∷ ps) h = search (no_singleton, none_plain ps h.1)
 
 any_group : (rank : ℕ) (gs : List (ℕ × List Part)) → AllByRecursion IsGroup gs
     → list_any (λ (p : Part). is_of_rank rank p.role p.word) (parts_in gs)
@@ -105,8 +98,7 @@ module _ {A : Type 0} (test : A → Bool) (new : List A) where
       → take at xs ++ (new ++ drop at xs) ≡ inserted xs
   inserted_at [] zero d none some l = append-nil new
   inserted_at [] (suc at) d none some l = absurd (omega arith)
-  inserted_at (x ∷ xs) zero d none some l =
-      ap (λ b. cond b (new ++ x ∷ xs) (x ∷ inserted xs)) (sym (some (omega arith)))
+  inserted_at (x ∷ xs) zero d none some l = grind arith
   inserted_at (x ∷ xs) (suc at) d none some l =
       let parts = or_parts _ _ none in
       ap (λ l. x ∷ l) (inserted_at xs at d parts.1 (λ m. some (omega arith)) (omega arith))
@@ -117,8 +109,7 @@ module _ {A : Type 0} (test : A → Bool) (new : List A) where
   inserted_behind [] xs none = refl
   inserted_behind (x ∷ before) xs none =
       let parts = or_parts _ _ none in
-      ap (λ b. cond b (new ++ x ∷ (before ++ xs)) (x ∷ inserted (before ++ xs))) parts.0
-      ∙ ap (λ l. x ∷ l) (inserted_behind before xs parts.1)
+      grind (arith, inserted_behind before xs parts.1)
 
 zip_inserted : {A B : Type 0} (R : A → B → Type 0) (f : A → Bool) (g : B → Bool)
     → ((x : A) (y : B) → R x y → f x ≡ g y)
@@ -127,15 +118,8 @@ zip_inserted : {A B : Type 0} (R : A → B → Type 0) (f : A → Bool) (g : B �
 zip_inserted R f g same news mews n [] [] h = n
 zip_inserted R f g same news mews n [] (y ∷ ys) h = absurd h
 zip_inserted R f g same news mews n (x ∷ xs) [] h = absurd h
-zip_inserted R f g same news mews n (x ∷ xs) (y ∷ ys) h =
-    let rest = zip_inserted R f g same news mews n xs ys h.1 in
-    subst (λ (b : Bool). AllZip R (inserted f news (x ∷ xs))
-    (cond b (mews ++ y ∷ ys) (y ∷ inserted g mews ys))) (same x y h.0)
-    (elim (f x) as (λ b. AllZip R (cond b (news ++ x ∷ xs) (x ∷ inserted f news xs))
-    (cond b (mews ++ y ∷ ys) (y ∷ inserted g mews ys))) [
-      | true ↦ zip_append R news (x ∷ xs) mews (y ∷ ys) n h
-      | false ↦ (h.0, rest)
-    ])
+zip_inserted R f g same news mews n (x ∷ xs) (y ∷ ys) h = grind
+    (arith, zip_append, zip_inserted R f g same news mews n xs ys h.1)
 
 -- a new group is put before the first of a greater rank
 group_put : (rank : ℕ) (new : List Part) (gs : List (ℕ × List Part)) → AllByRecursion IsGroup gs
@@ -157,23 +141,20 @@ group_put rank new ((r, p ∷ ps) ∷ gs) h n =
         ≡ parts_in (by_order (nat_cmp rank r) ((rank, new) ∷ (r, p ∷ ps) ∷ gs) ((r, new) ∷ gs)
         ((r, p ∷ ps) ∷ put nat_cmp rank new gs))
     at Less e rest =
-        let less : rank < r = ranked rank r Less (sym e) in
-        let b : nat_lt rank r ≡ true = grind (arith, nat_tests) in
-        ap (λ b. cond b (new ++ p ∷ (ps ++ parts_in gs))
-        (p ∷ inserted (λ (q : Part). is_greater rank q.role q.word) new (ps ++ parts_in gs))) (first ∙ b)
-        ∙ ap (λ o. parts_in (by_order o ((rank, new) ∷ (r, p ∷ ps) ∷ gs) ((r, new) ∷ gs)
-        ((r, p ∷ ps) ∷ put nat_cmp rank new gs))) (sym e)
+        grind (arith, nat_tests)
     at Equal e rest = absurd (n (ap
         (λ o. is_eq o || list_any (eq_by_cmp nat_cmp rank) (map (λ (r, _). r) gs)) e))
     at Greater e rest =
         let more : r < rank = ranked rank r Greater (sym e) in
         let b : nat_lt rank r ≡ false = grind (arith, nat_tests) in
-        ap (λ b. cond b (new ++ p ∷ (ps ++ parts_in gs))
-        (p ∷ inserted (λ (q : Part). is_greater rank q.role q.word) new (ps ++ parts_in gs))) (first ∙ b)
-        ∙ ap (λ l. p ∷ l) (inserted_behind (λ (q : Part). is_greater rank q.role q.word) new ps (parts_in gs)
-        (none_plain (λ w. nat_lt rank w) ps h.0.2) ∙ ap (λ l. ps ++ l) rest)
-        ∙ ap (λ o. parts_in (by_order o ((rank, new) ∷ (r, p ∷ ps) ∷ gs) ((r, new) ∷ gs)
-        ((r, p ∷ ps) ∷ put nat_cmp rank new gs))) (sym e)
+        cc (
+          first,
+          b,
+          inserted_behind (λ (q : Part). is_greater rank q.role q.word) new ps (parts_in gs)
+              (none_plain (λ w. nat_lt rank w) ps h.0.2),
+          rest,
+          e,
+        )
 
 -- the last spans are put before the first block of a greater rank
 pub spell_placed : (rank : ℕ) (t : Text) (list new : List Span) (before ps : List Part)
@@ -192,10 +173,9 @@ spell_placed rank t list new before ps gs from at d g n long h low middle none s
     let moved = drop from list in
     let m : at + (from - at) ≡ from = omega arith in
     let front : AllZip R (take from list) (before ++ parts_in gs) =
-    subst (λ (k : ℕ). AllZip R (take k list) (before ++ parts_in gs)) long
-    (zip_take R list (before ++ parts_in gs) ps h) in
+    rw long at (zip_take R list (before ++ parts_in gs) ps h) in
     let back : AllZip R moved ps =
-    subst (λ (k : ℕ). AllZip R (drop k list) ps) long (zip_drop R list (before ++ parts_in gs) ps h) in
+    rw long at (zip_drop R list (before ++ parts_in gs) ps h) in
     let behind : drop (from - at) (drop at list) ≡ moved =
     drop-drop (from - at) at list ∙ ap (λ k. drop k list) m in
     let between : take (from - at) (drop at list) ≡ drop at (take from list) =
@@ -203,13 +183,10 @@ spell_placed rank t list new before ps gs from at d g n long h low middle none s
     let is : new ≡ inserted f moved (take from list) =
     e ∙ (λ j. sym (take-take at from list low) j ++ (behind j ++ between j))
     ∙ inserted_at f moved (take from list) at d (ap (list_any f) (take-take at from list low) ∙ none)
-    (λ l. let k : at < from = omega (arith, length-take-le from list middle) in
-    ap f (get_or-take from list at d k) ∙ some k) (omega (arith, length-take-le from list middle)) in
+    (grind (arith, length-take-le, get_or-take)) (omega (arith, length-take-le from list middle)) in
     let parts : inserted test ps (before ++ parts_in gs) ≡ before ++ parts_in (put nat_cmp rank ps gs) =
-    inserted_behind test ps before (parts_in gs) (none_plain (λ w. nat_lt rank w) before g.0)
-    ∙ ap (λ l. before ++ l) (group_put rank ps gs g.1 n) in
-    let zipped : AllZip R (inserted f moved (take from list)) (inserted test ps (before ++ parts_in gs)) =
-    zip_inserted R f test (same_test (is_greater rank) t) moved ps back (take from list)
-    (before ++ parts_in gs) front in
-    subst (λ (ss : List Span). AllZip R ss (before ++ parts_in (put nat_cmp rank ps gs))) (sym is)
-    (subst (λ (qs : List Part). AllZip R (inserted f moved (take from list)) qs) parts zipped)
+    cc (
+      inserted_behind test ps before (parts_in gs) (none_plain (λ w. nat_lt rank w) before g.0),
+      group_put rank ps gs g.1 n,
+    ) in
+    grind (arith, zip_inserted, same_test)

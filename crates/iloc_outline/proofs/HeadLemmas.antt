@@ -1,19 +1,44 @@
 -- What the reader of a head says: an identifier that is all of a text, or ends at a block, or why it is none.
 use Rattle.std.proofs.Common.{◌≡◌, ◌≢◌, ◌⊎◌, inl, inr, ◌≤◌, Bool, true, false, List, [], ◌∷◌, ◌++◌, length}
 use Rattle.std.proofs.Common.{map, flat_map, take, drop, None, Some, refl, sym, ap, ◌∙◌, subst, arith}
-use Rattle.std.proofs.Common.{append_assoc, append-nil, length-append, true≢false}
+use Rattle.std.proofs.Common.{append_assoc, length-append, true≢false}
 use Rattle.std.specs.List.{AllZip}
 use Rattle.std.proofs.lemmas.List.{append_cancel_left, take-append-drop, length-take-le}
-use Rattle.iloc_spec_grammar.specs.Syntax.{Text, SpelledIdentifier, Language, AllDifferent, IsWord, dashes}
-use Rattle.iloc_spec_grammar.specs.Syntax.{first_piece, front, head, identifier_pieces, is_one_byte, is_word}
-use Rattle.iloc_spec_grammar.specs.Syntax.{join, languages, lower, pieces, word_cmp}
-use Rattle.iloc_spec_grammar.specs.Meaning.{IdentifierMeans, SpellsIdentifier, normal_identifier}
-use Rattle.iloc_spec_grammar.specs.Meaning.{not_an_identifier}
+use Rattle.iloc_spec_grammar.specs.Syntax.{
+  Text,
+  SpelledIdentifier,
+  Language,
+  AllDifferent,
+  IsWord,
+  dashes,
+  first_piece,
+  front,
+  head,
+  identifier_pieces,
+  is_one_byte,
+  is_word,
+  join,
+  languages,
+  lower,
+  pieces,
+  word_cmp,
+}
+use Rattle.iloc_spec_grammar.specs.Meaning.{
+  IdentifierMeans,
+  SpellsIdentifier,
+  normal_identifier,
+  not_an_identifier,
+}
 use Rattle.iloc_spec_grammar.specs.Reading.{after_front, after_head, from_block, front_of, starts_block}
 use Rattle.iloc_spec_grammar.proofs.PartTexts.{join-append}
 use Rattle.iloc_spec_grammar.proofs.PiecesLaws.{at_pieces}
-use Rattle.iloc_spec_grammar.proofs.ReadingLaws.{from_block_starts, front-from_block, refuses_more}
-use Rattle.iloc_spec_grammar.proofs.ReadingLaws.{refuses_repeat, starts_ends}
+use Rattle.iloc_spec_grammar.proofs.ReadingLaws.{
+  from_block_starts,
+  front-from_block,
+  refuses_more,
+  refuses_repeat,
+  starts_ends,
+}
 use Rattle.iloc_spec_grammar.proofs.Readings.{after_language}
 use Rattle.iloc_outline.specs.Identifier.{IsAfterFront, IsFrontRead, front_text}
 use Rattle.iloc_pieces.specs.Cursor.{IsPast, piece_left, pieces_left, bytes_left, whole_text}
@@ -38,9 +63,14 @@ use Rattle.iloc_pieces.proofs.CursorLemmas.{length_text, past_past}
 use Rattle.iloc_outline.proofs.Meanings.{parts_dashes}
 use Rattle.iloc_outline.proofs.OutlineLemmas.{lower-append, lower-dashes}
 use Rattle.iloc_outline.proofs.SpansLemmas.{spell_length}
-use Rattle.iloc_outline.proofs.TransformLemmas.{at_language, long_front, pieces_front_of, variants_of}
-use Rattle.iloc_outline.proofs.TransformLemmas.{words_front}
-use Rattle.iloc_outline.proofs.TransformReading.{pieces_front}
+use Rattle.iloc_outline.proofs.TransformLemmas.{
+  at_language,
+  long_front,
+  pieces_front_of,
+  variants_of,
+  words_front,
+}
+use Rattle.iloc_outline.proofs.TransformReading.{front_is_all, pieces_front}
 use Rattle.iloc_spec_grammar.proofs.SameFaults.{first_of_head}
 
 -- ---- heads that are no identifier
@@ -49,18 +79,14 @@ use Rattle.iloc_spec_grammar.proofs.SameFaults.{first_of_head}
 more_left : (ps : List Text) → IsWord (Language languages) (first_piece ps) → after_front ps ≢ after_head ps
     → ¬ (SpellsIdentifier languages (head ps))
 more_left = at_language _ (λ p ps h.
-    subst (λ qs. after_front (p ∷ qs) ≢ from_block ps → ¬ (SpellsIdentifier languages (p ∷ front ps)))
-    (front-from_block ps)
-    (refuses_more languages p (front ps) (from_block ps)
+    rw (front-from_block ps) at (refuses_more languages p (front ps) (from_block ps)
     (starts_ends (from_block ps) (from_block_starts ps))))
 
 -- a variant comes twice
 one_twice : (ps : List Text) → IsWord (Language languages) (first_piece ps)
     → ¬ (AllDifferent word_cmp (map lower (front_of ps).variants)) → ¬ (SpellsIdentifier languages (head ps))
 one_twice = at_language _ (λ p ps h.
-    subst (λ qs. ¬ (AllDifferent word_cmp (map lower (front_of (p ∷ qs)).variants))
-    → ¬ (SpellsIdentifier languages (p ∷ front ps))) (front-from_block ps)
-    (refuses_repeat languages p (front ps) (from_block ps)
+    rw (front-from_block ps) at (refuses_repeat languages p (front ps) (from_block ps)
     (starts_ends (from_block ps) (from_block_starts ps))))
 
 -- behind a head a block begins
@@ -73,8 +99,7 @@ starts_single t = at_pieces (λ ps. starts_block ps ≡ true → is_one_byte (fi
     (λ p ps e. e) t
 
 pub single_starts : (t : Text) → is_one_byte (first_piece (pieces t)) ≡ true → starts_block (pieces t) ≡ true
-single_starts t = at_pieces (λ ps. is_one_byte (first_piece ps) ≡ true → starts_block ps ≡ true)
-    (λ p ps e. e) t
+single_starts t = grind (arith, at_pieces)
 
 -- ---- heads that are
 
@@ -90,10 +115,6 @@ head_words ps rest word cut s =
       ap after_head cut ∙ append_cancel_left after _ _
           (ap (λ qs. qs ++ from_block (after ++ rest)) (sym whole) ∙ front-from_block (after ++ rest)),
     )
-
-no_items : (xs ys : List Text) → xs ++ ys ≡ [] → (xs ≡ []) × (ys ≡ [])
-no_items [] ys h = (refl, h)
-no_items (x ∷ xs) ys h = cc
 
 -- ---- what is read from the beginning of a text on
 
@@ -125,23 +146,19 @@ module _ (l : Cursor) (f : Front) (first : l.at ≡ 0)
   }
 
   inside : f.end ≤ length (bytes_left l)
-  inside = subst (λ t. f.end ≤ length t) whole (omega (arith, read.inside, length_text l))
+  inside = rw (← whole) (omega (arith, read.inside, length_text l))
 
   front_bytes : take f.end (bytes_left l) ≡ join (front_pieces i)
-  front_bytes = subst (λ t. take f.end t ≡ join (front_pieces i)) whole (read.text first)
+  front_bytes = rw whole at (read.text first)
 
   front_printed : front_text f.script f.region (take f.end (bytes_left l))
       ≡ join (front_pieces (normal_identifier i))
-  front_printed = subst (λ t. front_text f.script f.region (take f.end t)
-      ≡ join (front_pieces (normal_identifier i))) whole (read.printed first)
+  front_printed = rw whole at (read.printed first)
 
   behind : (rest : Text) → bytes_left l ≡ join (identifier_pieces i) ++ rest
       → drop f.end (bytes_left l) ≡ dashes i.variants ++ rest
   behind rest e = append_cancel_left (join (front_pieces i)) _ _
-      (ap (λ x. x ++ drop f.end (bytes_left l)) (sym front_bytes) ∙ take-append-drop f.end (bytes_left l) ∙ e
-      ∙ ap (λ ps. join ps ++ rest) pieces_i
-      ∙ ap (λ x. x ++ rest) (join-append i.language _ i.variants)
-      ∙ append_assoc (join (front_pieces i)) (dashes i.variants) rest)
+      (grind (arith, front_bytes, take-append-drop, pieces_i, join-append, append_assoc))
 
   stands : (rest : Text) → bytes_left l ≡ join (identifier_pieces i) ++ rest
       → flat_map printed_part (variant_parts i.variants) ≡ map lower i.variants
@@ -150,48 +167,30 @@ module _ (l : Cursor) (f : Front) (first : l.at ≡ 0)
   stands rest e same =
       let long : length (take f.end (bytes_left l)) ≡ f.end = length-take-le f.end (bytes_left l) inside in
       let within = read.within first in
-      ap (front_text f.script f.region) (sym (take-append-drop f.end (bytes_left l)))
-      ∙ front_text-append f.script f.region (take f.end (bytes_left l)) (drop f.end (bytes_left l))
-      (omega arith) (omega arith)
-      ∙ ap (λ x. x ++ lower (drop f.end (bytes_left l))) front_printed
-      ∙ ap (λ x. join (front_pieces (normal_identifier i)) ++ x)
-      (ap lower (behind rest e) ∙ lower-append (dashes i.variants) rest
-      ∙ ap (λ x. x ++ lower rest) (lower-dashes i.variants ∙ ap dashes (sym same)
-      ∙ parts_dashes (variant_parts i.variants)))
+      cc (
+        take-append-drop f.end (bytes_left l),
+        front_text-append f.script f.region
+            (take f.end (bytes_left l)) (drop f.end (bytes_left l)) (omega arith) (omega arith),
+        front_printed,
+        behind rest e,
+        lower-append (dashes i.variants) rest,
+        lower-dashes i.variants,
+        same,
+        parts_dashes (variant_parts i.variants),
+      )
 
   reads : (ps : List Text) (spans : Spans) (n : Bool) → AllDifferent word_cmp (map lower i.variants)
       → ps ≡ identifier_pieces i → Spell (bytes_left l) spans (variant_parts i.variants)
       → length (held_spans spans) ≤ length ps
       → (n ≡ true → flat_map printed_part (variant_parts i.variants) ≡ map lower i.variants)
       → ReadsHead (bytes_left l) ps (outline_of f) spans n
-  reads ps spans n different same spell few order = record {
-    written = i;
-    means = meant ps different same;
-    inside = inside;
-    front = front_printed;
-    variants = spell;
-    few = omega (arith, few, spell_length (bytes_left l) spans (variant_parts i.variants) spell);
-    order = λ e rest t. stands rest (t ∙ ap (λ qs. join qs ++ rest) same) (order e);
-  }
+  reads ps spans n different same spell few order = grind
+      (arith, meant, inside, front_printed, spell_length, stands)
 
   -- a language, a script and a region are all of the text
   pub head_front : (spans : Spans) → held_spans spans ≡ [] → IsAfterFront l None
       → AreHeadRead (bytes_left l) m spans true (heads.All (outline_of f))
-  head_front spans none cut =
-      let left = no_items i.variants (after_front (pieces_left l)) (append_cancel_left (front_pieces i) _ []
-      (sym (append_assoc (front_pieces i) i.variants (after_front (pieces_left l)))
-      ∙ ap (λ ps. ps ++ after_front (pieces_left l)) (sym pieces_i)
-      ∙ pieces_front_of (pieces_left l) word ∙ cut ∙ sym (append-nil (front_pieces i)))) in
-      let nothing = left.0 in
-      let all : pieces_left l ≡ identifier_pieces i =
-      cut ∙ sym (append-nil (front_pieces i)) ∙ ap (λ vs. front_pieces i ++ vs) (sym nothing)
-      ∙ sym pieces_i in
-      reads (pieces_left l) spans true (subst (λ vs. AllDifferent word_cmp (map lower vs)) (sym nothing) tt)
-      all
-      (subst (λ vs. Spell (bytes_left l) spans (variant_parts vs)) (sym nothing)
-      (subst (λ ss. AllZip (IsSpan (bytes_left l)) ss []) (sym none) tt))
-      (omega (arith, ap length none))
-      (λ _. subst (λ vs. flat_map printed_part (variant_parts vs) ≡ map lower vs) (sym nothing) refl)
+  head_front spans none cut = grind (arith, whole, front_is_all, reads)
 
   -- variants follow, or something else
   module _ (after : IsAfterFront l (Some m)) (old : Spans) (none : held_spans old ≡ []) where
@@ -201,40 +200,30 @@ module _ (l : Cursor) (f : Front) (first : l.at ≡ 0)
       same_words = h.words ∙ variants_of (pieces_left l) (pieces_left m) after.1
 
       differ : AllDifferent word_cmp (map lower i.variants)
-      differ = subst (λ ws. AllDifferent word_cmp (map lower ws)) same_words h.may_be
+      differ = rw same_words at h.may_be
 
       spelled : Spell (bytes_left l) new (variant_parts i.variants)
-      spelled = subst (λ ws. Spell (bytes_left l) new (variant_parts ws)) same_words
-          (subst (λ t. Spell t new (variant_parts vs)) (after.0.text ∙ whole)
+      spelled = rw same_words at (subst (λ t. Spell t new (variant_parts vs)) (after.0.text ∙ whole)
           (h.puts.adds [] (subst (λ ss. AllZip (IsSpan (whole_text m)) ss []) (sym none) tt)))
 
       read_up_to : (ps : List Text) → ps ≡ identifier_pieces i →
           ReadsHead (bytes_left l) ps (outline_of f) new n
       read_up_to ps same = reads ps new n differ same spelled
-          (omega (
-            arith,
-            h.puts.few,
-            ap length none,
-            ap length same_words,
-            ap length same,
-            ap length pieces_i,
-            length-append (front_pieces i) i.variants,
-          ))
-          (λ e. subst (λ ws. flat_map printed_part (variant_parts ws) ≡ map lower ws) same_words
-          (h.puts.order e).1)
+          (grind (arith, same_words, pieces_i, length-append))
+          (λ e. rw same_words at (h.puts.order e).1)
 
     -- variants are the rest of the text
     pub head_variants : (k : Cursor) (new : Spans) (n : Bool) →
         AreWordsRead roles.Variant m k old new true n End
         → AreHeadRead (bytes_left l) k new n (heads.All (outline_of f))
     head_variants k new n h = read_up_to (pieces_left m) new n h (pieces_left l)
-        (after.0.pieces ∙ ap (λ ws. front_pieces i ++ ws) (same_words (pieces_left m) new n h) ∙ sym pieces_i)
+        (cc (after.0.pieces, same_words (pieces_left m) new n h, pieces_i))
 
     module _ (k : Cursor) (new : Spans) (n : Bool)
         (h : AreWordsRead roles.Variant m k old new true n Next) where
       before : IsPast l k (identifier_pieces i)
-      before = subst (IsPast l k) (ap (λ ws. front_pieces i ++ ws) (same_words h.0 new n h.3) ∙ sym pieces_i)
-          (past_past after.0 h.1)
+      before = rw (ap (λ ws. front_pieces i ++ ws) (same_words h.0 new n h.3) ∙ sym pieces_i)
+          at (past_past after.0 h.1)
 
       -- a block follows
       pub head_block : is_one_byte (piece_left k) ≡ true
@@ -269,13 +258,12 @@ module _ (l : Cursor) (f : Front) (first : l.at ≡ 0)
         → AreWordsRead roles.Variant m k old new true n Repeated
         → AreHeadRead (bytes_left l) k new n (heads.Refused InvalidSubtag)
     head_repeated k new n h = not_an_identifier begins
-        (one_twice (pieces_left l) word (subst (λ ws. ¬ (AllDifferent word_cmp (map lower ws)))
-        (variants_of (pieces_left l) (pieces_left m) after.1) h.1))
+        (grind (arith, one_twice, variants_of))
 
     -- neither of these
     pub head_other : (k : Cursor) (new : Spans) (n : Bool) (r : Found)
         → AreWordsRead roles.Variant m k old new true n r → (r ≡ Bad) ⊎ (r ≡ Repeated)
         → AreHeadRead (bytes_left l) k new n (heads.Refused InvalidSubtag)
-    head_other k new n r h (inl e) = absurd (subst (AreWordsRead roles.Variant m k old new true n) e h tt)
+    head_other k new n r h (inl e) = grind arith
     head_other k new n r h (inr e) =
-        head_repeated k new n (subst (AreWordsRead roles.Variant m k old new true n) e h)
+        head_repeated k new n (rw e at h)

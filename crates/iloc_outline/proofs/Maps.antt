@@ -1,6 +1,26 @@
 -- Maps of entries: under other keys, with an entry put between two others, and with what is printed of each.
-use Rattle.std.proofs.Common.{◌≡◌, ℕ, ◌<◌, cond, true, false, List, [], ◌∷◌, ◌++◌, map, flat_map, refl, sym}
-use Rattle.std.proofs.Common.{ap, ◌∙◌, subst, Option, Some, None, append_assoc}
+use Rattle.std.proofs.Common.{
+  arith,
+  ◌≡◌,
+  ℕ,
+  ◌<◌,
+  cond,
+  true,
+  false,
+  List,
+  [],
+  ◌∷◌,
+  ◌++◌,
+  map,
+  flat_map,
+  refl,
+  ap,
+  ◌∙◌,
+  Option,
+  Some,
+  None,
+  append_assoc,
+}
 use Rattle.std.specs.List.{AllByRecursion}
 use Rattle.std.specs.Option.{option_or}
 use Rattle.std.specs.Ordering.{nat_cmp, eq_by_cmp, is_eq}
@@ -28,27 +48,13 @@ module _ {K X L Y : Type 0} (R : K → K → Ordering) (S : L → L → Ordering
   put_carried : (k : K) (v : X) (es : List (K × X)) → P (k, v) → AllByRecursion P es
       → carried (put R k v es) ≡ put S (name (k, v)) (value (k, v)) (carried es)
   put_carried k v [] p h = refl
-  put_carried k v (e ∷ es) p h =
-      let one : L × Y = (name (k, v), value (k, v)) in
-      let old : L × Y = (name e, value e) in
-      let later : List (L × Y) = old ∷ put S one.0 one.1 (carried es) in
-      elim (R k e.0) as (λ r. R k e.0 ≡ r → r ≡ S one.0 old.0
-      → carried (by_order r ((k, v) ∷ e ∷ es) ((e.0, v) ∷ es) (e ∷ put R k v es))
-      ≡ by_order (S one.0 old.0) (one ∷ carried (e ∷ es)) ((old.0, one.1) ∷ carried es) later) [
-        | Less ↦ λ t s. ap (λ r. by_order r (one ∷ carried (e ∷ es)) ((old.0, one.1) ∷ carried es) later) s
-        | Equal ↦ λ t s. (λ j. (name (sym (same k e.0 t) j, v), value (sym (same k e.0 t) j, v)) ∷ carried es)
-            ∙ ap (λ n. (n, one.1) ∷ carried es) (exact one.0 old.0 (sym s))
-            ∙ ap (λ r. by_order r (one ∷ carried (e ∷ es)) ((old.0, one.1) ∷ carried es) later) s
-        | Greater ↦ λ t s. ap (λ l. old ∷ l) (put_carried k v es p h.1)
-            ∙ ap (λ r. by_order r (one ∷ carried (e ∷ es)) ((old.0, one.1) ∷ carried es) later) s
-      ] refl (alike (k, v) e p h.0)
+  put_carried k v (e ∷ es) p h = grind (arith, put_carried k v es p h.1)
 
   -- the map under other keys is the map of the entries under those
   pub map_of_carried : (es : List (K × X)) → AllByRecursion P es → carried (map_of R es)
       ≡ map_of S (carried es)
   map_of_carried [] h = refl
-  map_of_carried (e ∷ es) h = put_carried e.0 e.1 (map_of R es) h.0 (all-map_of R same P es h.1)
-      ∙ ap (put S (name e) (value e)) (map_of_carried es h.1)
+  map_of_carried (e ∷ es) h = grind (arith, put_carried, all-map_of, map_of_carried es h.1)
 
 -- ---- an entry between others
 
@@ -56,12 +62,8 @@ module _ {K X L Y : Type 0} (R : K → K → Ordering) (S : L → L → Ordering
 pub put_between : {X : Type 0} (k : ℕ) (v : X) (es fs : List (ℕ × X)) → AllByRecursion (λ e. e.0 < k) es
     → AllByRecursion (λ e. k < e.0) fs → put nat_cmp k v (es ++ fs) ≡ es ++ (k, v) ∷ fs
 put_between k v [] [] g h = refl
-put_between k v [] (f ∷ fs) g h =
-    ap (λ r. by_order r ((k, v) ∷ f ∷ fs) ((f.0, v) ∷ fs) (f ∷ put nat_cmp k v fs)) (is_less k f.0 h.0)
-put_between k v (e ∷ es) fs g h =
-    ap (λ r. by_order r ((k, v) ∷ e ∷ (es ++ fs)) ((e.0, v) ∷ (es ++ fs)) (e ∷ put nat_cmp k v (es ++ fs)))
-    (is_greater k e.0 g.0)
-    ∙ ap (λ l. e ∷ l) (put_between k v es fs g.1 h)
+put_between k v [] (f ∷ fs) g h = search is_less
+put_between k v (e ∷ es) fs g h = search (is_greater, put_between k v es fs g.1 h)
 
 -- ---- what is printed of each entry
 
@@ -72,7 +74,7 @@ flat es = flat_map (λ e. e.1) es
 -- of two lists, one behind the other
 pub flat-append : {X : Type 0} (es fs : List (ℕ × List X)) → flat (es ++ fs) ≡ flat es ++ flat fs
 flat-append [] fs = refl
-flat-append (e ∷ es) fs = ap (λ l. e.1 ++ l) (flat-append es fs) ∙ sym (append_assoc e.1 (flat es) (flat fs))
+flat-append (e ∷ es) fs = simp (append_assoc, flat-append es fs)
 
 flat-put : {X : Type 0} (k : ℕ) (es : List (ℕ × List X)) → find nat_cmp k es ≡ None
     → flat (put nat_cmp k [] es) ≡ flat es
@@ -95,8 +97,7 @@ flat-last {X = X} k es = at (find nat_cmp k es) refl
     found v e q = find-append nat_cmp q es ((k, []) ∷ [])
         ∙ cond_both (eq_by_cmp nat_cmp q k) (Some []) None
         (λ o. option_or (find nat_cmp q es) o ≡ find nat_cmp q es)
-        (λ t. subst (λ (n : ℕ). option_or (find nat_cmp n es) (Some []) ≡ find nat_cmp n es) (tied q k t)
-        (rw e))
+        (λ t. rw (← (tied q k t)) (rw e))
         (λ t. or_none (find nat_cmp q es))
 
     missed : find nat_cmp k es ≡ None → (q : ℕ) → find nat_cmp q (es ++ (k, []) ∷ [])
@@ -104,8 +105,7 @@ flat-last {X = X} k es = at (find nat_cmp k es) refl
     missed e q = find-append nat_cmp q es ((k, []) ∷ [])
         ∙ elim (eq_by_cmp nat_cmp q k) as (λ b. eq_by_cmp nat_cmp q k ≡ b
         → option_or (find nat_cmp q es) (cond b (Some []) None) ≡ cond b (Some []) (find nat_cmp q es)) [
-          | true ↦ λ t. subst (λ (n : ℕ). option_or (find nat_cmp n es) (Some []) ≡ Some []) (tied q k t)
-              (rw e)
+          | true ↦ λ t. rw (← (tied q k t)) (rw e)
           | false ↦ λ t. or_none (find nat_cmp q es)
         ] refl
 

@@ -1,14 +1,56 @@
 -- What a text means whose head is an identifier, and its normal text; or its fault.
-use Rattle.std.proofs.Common.{◌≡◌, inl, inr, true, List, [], ◌∷◌, ◌++◌, map, flat_map, refl, sym, ap, ◌∙◌}
-use Rattle.std.proofs.Common.{subst, Some, None, append_assoc, option_to_list, true≢false}
+use Rattle.std.proofs.Common.{
+  arith,
+  ◌≡◌,
+  inl,
+  inr,
+  true,
+  List,
+  [],
+  ◌∷◌,
+  ◌++◌,
+  map,
+  flat_map,
+  refl,
+  sym,
+  ap,
+  ◌∙◌,
+  Some,
+  None,
+  append_assoc,
+  option_to_list,
+  true≢false,
+}
 use Rattle.std.specs.List.{AllByRecursion, list_any}
 use Rattle.std.proofs.lemmas.List.Concat.{flat_map-append}
 use Rattle.std.proofs.lemmas.Bool.{or_left, or_right, or_cases}
-use Rattle.iloc_spec_grammar.specs.Syntax.{Text, SpelledIdentifier, Identifier, Language, Variant, IsWord}
-use Rattle.iloc_spec_grammar.specs.Syntax.{first_piece, head, is_same, is_word, join, dashes, languages}
-use Rattle.iloc_spec_grammar.specs.Syntax.{lower, pieces, tail_blocks}
-use Rattle.iloc_spec_grammar.specs.Meaning.{Fault, HasFault, HasIdentifierFault, IdentifierMeans, Means}
-use Rattle.iloc_spec_grammar.specs.Meaning.{in_head, normal_identifier}
+use Rattle.iloc_spec_grammar.specs.Syntax.{
+  Text,
+  SpelledIdentifier,
+  Identifier,
+  Language,
+  Variant,
+  IsWord,
+  first_piece,
+  head,
+  is_same,
+  is_word,
+  join,
+  dashes,
+  languages,
+  lower,
+  pieces,
+  tail_blocks,
+}
+use Rattle.iloc_spec_grammar.specs.Meaning.{
+  Fault,
+  HasFault,
+  HasIdentifierFault,
+  IdentifierMeans,
+  Means,
+  in_head,
+  normal_identifier,
+}
 use Rattle.iloc_spec_grammar.specs.Meaning as faults
 use Rattle.iloc_spec_grammar.specs.Tree.{meaning}
 use Rattle.iloc_spec_grammar.specs.Values.{identifier_text, text}
@@ -23,9 +65,7 @@ use Rattle.iloc_spec_grammar.proofs.RuleTests.{tests_identifier}
 use Rattle.iloc_spec_grammar.proofs.SetLaws.{any-set_of}
 use Rattle.iloc_spec_grammar.proofs.WordsLaws.{is_word-same}
 use Rattle.iloc_subtags.specs.declared.parse_error.ParseError.{ParseError}
-use Rattle.iloc_subtags.specs.declared.parse_error.ParseError.TheVariants.{InvalidLanguage, InvalidSubtag}
-use Rattle.iloc_subtags.specs.declared.parse_error.ParseError.TheVariants.{InvalidExtension}
-use Rattle.iloc_subtags.specs.declared.parse_error.ParseError.TheVariants.{DuplicatedExtension, OutOfMemory}
+use Rattle.iloc_subtags.specs.declared.parse_error.ParseError.TheVariants.{OutOfMemory}
 use Rattle.iloc_subtags.specs.Judging.{Refusal, error_of}
 use Rattle.iloc_outline.specs.Outlines.{parts_text}
 use Rattle.iloc_outline.specs.Parts.{Part, blocks_parts, front_pieces, printed_part, variant_parts}
@@ -38,7 +78,7 @@ use Rattle.iloc_spec_grammar.proofs.SameFaults.{first_of_head}
 -- the head is read as what it spells
 head_read : (ps : List Text) (i : Identifier) → (m : IdentifierMeans languages ps i) → identifier_of ps
     ≡ m.written
-head_read ps i m = ap identifier_of m.spelled ∙ identifier_of-pieces m.written m.grammatical.words
+head_read ps i m = grind (arith, identifier_of-pieces)
 
 -- what the plain program answers of a text whose head is an identifier
 answer : (t : Text) (i : Identifier) → IdentifierMeans languages (head (pieces t)) i
@@ -70,22 +110,13 @@ has_fault t i f m some = (computed_fault languages languages_table t f).0
 
 -- as the reader says it
 pub refused : (Has : Fault → Type 0) (f : Fault) (e : ParseError) → e ≡ error_of f → Has f → Refusal Has ⊥ e
-refused Has f e is h = subst (Refusal Has ⊥) (sym is) (at f h)
-  where
-    at : (f : Fault) → Has f → Refusal Has ⊥ (error_of f)
-    at faults.InvalidLanguage h = h
-    at faults.InvalidSubtag h = h
-    at faults.InvalidExtension h = h
-    at faults.DuplicatedExtension h = h
+refused Has f e is h = grind arith
 
 -- the fault of the head is that of the text
 pub refused_head : (t : Text) (e : ParseError) → Refusal (HasIdentifierFault languages (head (pieces t))) ⊥ e
     → Refusal (HasFault languages t) ⊥ e
-refused_head t InvalidLanguage h = in_head h
-refused_head t InvalidSubtag h = in_head h
-refused_head t InvalidExtension h = in_head h
-refused_head t DuplicatedExtension h = in_head h
 refused_head t OutOfMemory h = h
+refused_head t _ h = in_head h
 
 -- ---- variants whose set is that of words are words
 
@@ -110,19 +141,14 @@ words_alike (v ∷ vs) ws h f = (
 pub variants_words : (ps : List Text) (written : SpelledIdentifier)
     → IdentifierMeans languages ps (normal_identifier written)
     → AllByRecursion (IsWord Variant) written.variants
-variants_words ps written m = words_alike written.variants m.written.variants m.grammatical.words.variants
-    (λ w e.
-    sym (any-set_of w (map lower m.written.variants))
-    ∙ sym (ap (λ (i : Identifier). list_any (is_same w) i.variants) m.means)
-    ∙ any-set_of w (map lower written.variants) ∙ e)
+variants_words ps written m = grind (arith, words_alike, any-set_of)
 
 -- ---- the text
 
 -- what parts print, each piece behind a hyphen
 pub parts_dashes : (ps : List Part) → dashes (flat_map printed_part ps) ≡ parts_text ps
 parts_dashes [] = refl
-parts_dashes (p ∷ ps) = dashes-append (printed_part p) (flat_map printed_part ps)
-    ∙ ap (λ t. dashes (printed_part p) ++ t) (parts_dashes ps)
+parts_dashes (p ∷ ps) = simp (dashes-append, parts_dashes ps)
 
 -- of two lists of parts, one behind the other
 pub parts_text-append : (ps qs : List Part) → parts_text (ps ++ qs) ≡ parts_text ps ++ parts_text qs

@@ -1,6 +1,6 @@
 -- Which pieces may follow `x`, and another singleton than `t` and `u`; and what their readers say.
 use Rattle.std.proofs.Common.{◌≡◌, ◌≢◌, inl, inr, ℕ, ◌+◌, ◌-◌, ◌<◌, ◌==◌, Bool, true, false, not, cond, ◌&&◌}
-use Rattle.std.proofs.Common.{◌||◌, List, [], ◌∷◌, ◌++◌, length, map, filter, refl, sym, ap, ap₂, ◌∙◌, subst}
+use Rattle.std.proofs.Common.{◌||◌, List, [], ◌∷◌, ◌++◌, length, map, refl, sym, ap, ap₂, ◌∙◌, subst}
 use Rattle.std.proofs.Common.{arith, length-append, true≢false}
 use Rattle.std.specs.Int.{is_in_range}
 use Rattle.std.specs.List.{AllByRecursion, list_all, list_any}
@@ -8,11 +8,35 @@ use Rattle.std.specs.Char.{to_ascii_lowercase}
 use Rattle.std.proofs.Math.Bool.{or-true, or-false}
 use Rattle.std.proofs.lemmas.Bool.{and_parts, cases_Bool, or_parts, ne_eqb}
 use Rattle.std.proofs.lemmas.List.Folds.{list_all-append, list_any-append}
-use Rattle.iloc_spec_grammar.specs.Syntax.{Text, code_t, code_u, code_x, IsHyphenFree, Subtag, PrivateSubtag}
-use Rattle.iloc_spec_grammar.specs.Syntax.{is_word, IsWord, IsOther, IsPrivate, kept, languages, lower, front}
-use Rattle.iloc_spec_grammar.specs.Syntax.{first_piece, is_one_byte, is_other_singleton}
-use Rattle.iloc_spec_grammar.specs.Tree.{Extension, unicode, transform, other, IsBlock, IsExtension}
-use Rattle.iloc_spec_grammar.specs.Tree.{extension_pieces}
+use Rattle.iloc_spec_grammar.specs.Syntax.{
+  Text,
+  code_t,
+  code_u,
+  code_x,
+  IsHyphenFree,
+  Subtag,
+  PrivateSubtag,
+  is_word,
+  IsWord,
+  IsOther,
+  IsPrivate,
+  kept,
+  languages,
+  lower,
+  front,
+  first_piece,
+  is_one_byte,
+  is_other_singleton,
+}
+use Rattle.iloc_spec_grammar.specs.Tree.{
+  Extension,
+  unicode,
+  transform,
+  other,
+  IsBlock,
+  IsExtension,
+  extension_pieces,
+}
 use Rattle.iloc_spec_grammar.specs.Computing.{is_block}
 use Rattle.iloc_spec_grammar.proofs.PiecesLaws.{pieces_hyphen_free, pieces_nonempty}
 use Rattle.iloc_spec_grammar.proofs.Readings.{IsLong, long_between}
@@ -20,10 +44,19 @@ use Rattle.iloc_spec_grammar.proofs.ReadBack.{all_append}
 use Rattle.iloc_spec_grammar.proofs.RuleTests.{tests_all, tests_block, tests_fails, tests_word}
 use Rattle.iloc_spec_grammar.proofs.Singletons.{no_t, no_u, no_x}
 use Rattle.iloc_spec_grammar.proofs.ValuesLaws.{all_weaker, filter_all}
-use Rattle.iloc_pieces.specs.Cursor.{IsEnd, IsLater, IsNextPiece, IsPast, IsSpanned, piece_left, pieces_left}
-use Rattle.iloc_pieces.specs.Cursor.{bytes_left, whole_text}
+use Rattle.iloc_pieces.specs.Cursor.{
+  IsEnd,
+  IsLater,
+  IsNextPiece,
+  IsPast,
+  IsSpanned,
+  piece_left,
+  pieces_left,
+  bytes_left,
+  whole_text,
+}
 use Rattle.iloc_outline.specs.Parts.{block_parts, printed_part, rank, singleton_part}
-use Rattle.iloc_outline.specs.Reading.{IsBody, IsPrivateBody, IsPutOther, Puts, ReadsBlock, block_span}
+use Rattle.iloc_outline.specs.Reading.{IsBody, IsPrivateBody, IsPutOther, ReadsBlock, block_span}
 use Rattle.iloc_spans.specs.Spans.{held_spans}
 use Rattle.iloc_pieces.specs.declared.place.Cursor.{Cursor}
 use Rattle.iloc_outline.specs.declared.reading.Found.{Found}
@@ -31,8 +64,15 @@ use Rattle.iloc_outline.specs.declared.reading.Found.TheVariants.{End, Next, Bad
 use Rattle.iloc_spans.specs.declared.spans.Spans.{Spans}
 use Rattle.iloc_pieces.proofs.CursorLemmas.{between_short, past_next, pieces_end, short_private, spanned_end}
 use Rattle.iloc_outline.proofs.SpansLemmas.{other_short}
-use Rattle.iloc_outline.proofs.BodyLemmas.{front_each, front_ends, front_goes_on, front_whole, puts_one}
-use Rattle.iloc_outline.proofs.BodyLemmas.{puts_singleton, singleton_span}
+use Rattle.iloc_outline.proofs.BodyLemmas.{
+  front_each,
+  front_ends,
+  front_goes_on,
+  front_whole,
+  puts_one,
+  puts_singleton,
+  singleton_span,
+}
 
 -- ---- good and bad blocks
 
@@ -52,10 +92,6 @@ other_bad c ps h bad = tests_fails (tests_block languages (c, ps)) none
     none : ¬ (IsBlock languages (c, ps))
     none (inl g) = no_x (to_ascii_lowercase c) g.0 h
     none (inr (x, g, cut)) = extension x g cut
-
-private_good : (c : ℕ) (ps : List Text) → to_ascii_lowercase c ≡ code_x → IsPrivate ps
-    → is_block languages (c, ps) ≡ true
-private_good c ps e g = (tests_block languages (c, ps)).passes (inl (e, g))
 
 private_bad : (c : ℕ) (ps : List Text) → to_ascii_lowercase c ≡ code_x → ¬ (IsPrivate ps)
     → is_block languages (c, ps) ≡ false
@@ -100,21 +136,17 @@ pub private_end : (c start : ℕ) (l m : Cursor) (old new : Spans) (o : Bool) �
 private_end c start l m old new o e later spanned h word end put =
     let all : pieces_left l ≡ h.words ++ (piece_left m ∷ []) = pieces_end h.past end in
     let each : AllByRecursion (IsWord PrivateSubtag) (pieces_left l) =
-    subst (AllByRecursion (IsWord PrivateSubtag)) (sym all)
-    (all_append (IsWord PrivateSubtag) h.words (piece_left m ∷ []) h.each (word, tt)) in
+    rw all (all_append (IsWord PrivateSubtag) h.words (piece_left m ∷ []) h.each (word, tt)) in
     let some : 0 < length (pieces_left l) =
     omega (arith, ap length all, length-append h.words (piece_left m ∷ [])) in
     let whole : IsSpanned (whole_text l) start (m.at + m.piece_length) ((c ∷ []) ∷ pieces_left l) =
-    subst (λ ps. IsSpanned (whole_text l) start (m.at + m.piece_length) ((c ∷ []) ∷ ps)) (sym all)
-    (spanned_end h.past end later spanned) in
+    rw all (spanned_end h.past end later spanned) in
     let known : is_other_singleton (to_ascii_lowercase c) ≡ false = ap is_other_singleton e in
     let place =
-    subst (λ (w : ℕ). held_spans new ≡ held_spans old ++ block_span w start (m.at + m.piece_length) false
-    ∷ [])
-    (sym (ap rank e)) put in (
-      private_good c (pieces_left l) e (record { words = each; nonempty = some }),
-      subst (λ parts. Puts (whole_text l) parts ((c ∷ []) ∷ pieces_left l) old new o o)
-          (sym (parts_alone c (pieces_left l) (ap (λ d. d == code_t) e) (ap (λ d. d == code_u) e)))
+    rw (← (ap rank e)) at put in (
+      ((tests_block languages (c, (pieces_left l))).passes
+          (inl (e, (record { words = each; nonempty = some })))),
+      rw (parts_alone c (pieces_left l) (ap (λ d. d == code_t) e) (ap (λ d. d == code_u) e))
           (puts_singleton (whole_text l) c start (m.at + m.piece_length) (pieces_left l) old new o whole known
           place),
     )
@@ -124,7 +156,7 @@ pub private_odd : (c : ℕ) (l m : Cursor) (old new : Spans) (o : Bool) → to_a
 private_odd c l m old new o e h odd =
     private_bad c (pieces_left l) e
     (λ g. last_word h.words (pieces_left m) odd
-    (subst (AllByRecursion (IsWord PrivateSubtag)) h.past.pieces g.words) (pieces_nonempty (bytes_left m)))
+    (rw h.past.pieces at g.words) (pieces_nonempty (bytes_left m)))
   where
     last_word : (ws qs : List Text) → is_word PrivateSubtag (first_piece qs) ≡ false
         → AllByRecursion (IsWord PrivateSubtag) (ws ++ qs) → qs ≢ [] → ⊥
@@ -157,19 +189,11 @@ pub record PassesOneMore (l m : Cursor) (g d : Bool) : Type 0 where
 
 not_both : (a b : Bool) → (not a || not b) ≡ not (a && (b && true))
 not_both true true = refl
-not_both true false = refl
-not_both false b = refl
+not_both _ _ = refl
 
 one_more : (ps : List Text) (p : Text) (g d : Bool) → ArePieces ps g d → IsBetween p
     → ArePieces (ps ++ (p ∷ [])) (g || is_word Subtag p) (d || not (is_word Subtag p))
-one_more ps p g d h b = record {
-  each = all_append IsBetween ps (p ∷ []) h.each (b, tt);
-  good = ap₂ ◌||◌ h.good (sym (or-false (is_word Subtag p)))
-      ∙ sym (list_any-append (is_word Subtag) ps (p ∷ []));
-  edited = ap (λ x. x || not (is_word Subtag p)) h.edited
-      ∙ not_both (list_all (is_word Subtag) ps) (is_word Subtag p)
-      ∙ ap not (sym (list_all-append (is_word Subtag) ps (p ∷ [])));
-}
+one_more ps p g d h b = grind (arith, all_append, ap₂, or-false, list_any-append, not_both, list_all-append)
 
 -- m is a subtag, or none
 pub more_subtag : (l m : Cursor) (g d : Bool) → PassesOther l m g d → IsBetween (piece_left m)
@@ -178,8 +202,7 @@ more_subtag l m g d h b e = record {
   words = h.words;
   past = h.past;
   are = subst (λ x. ArePieces (h.words ++ (piece_left m ∷ [])) x d) (ap (λ x. g || x) e ∙ or-true g)
-      (subst (ArePieces (h.words ++ (piece_left m ∷ [])) (g || is_word Subtag (piece_left m)))
-      (ap (λ x. d || not x) e ∙ or-false d) (one_more h.words (piece_left m) g d h.are b));
+      (rw (ap (λ x. d || not x) e ∙ or-false d) at (one_more h.words (piece_left m) g d h.are b));
 }
 
 pub more_odd : (l m : Cursor) (g d : Bool) → PassesOther l m g d → IsBetween (piece_left m)
@@ -188,20 +211,13 @@ more_odd l m g d h b e = record {
   words = h.words;
   past = h.past;
   are = subst (λ x. ArePieces (h.words ++ (piece_left m ∷ [])) x true) (ap (λ x. g || x) e ∙ or-false g)
-      (subst (ArePieces (h.words ++ (piece_left m ∷ [])) (g || is_word Subtag (piece_left m)))
-      (ap (λ x. d || not x) e ∙ or-true d) (one_more h.words (piece_left m) g d h.are b));
+      (rw (ap (λ x. d || not x) e ∙ or-true d) at (one_more h.words (piece_left m) g d h.are b));
 }
 
 pub other_next : (l m k : Cursor) (g d : Bool) → PassesOneMore l m g d → IsBetween (piece_left m) →
     IsNextPiece m k
     → PassesOther l k g d
-other_next l m k g d h b next =
-    record {
-      words = h.words ++ (piece_left m ∷ []);
-      past =
-          past_next h.past (between_short (piece_left m) b) next;
-      are = h.are;
-    }
+other_next l m k g d h b next = search (past_next, between_short)
 
 -- ---- what is printed of them
 
@@ -209,9 +225,7 @@ printed_other : (c : ℕ) (ps : List Text) → list_all (is_word Subtag) ps ≡ 
     → printed_part (singleton_part c ps) ≡ map lower ((c ∷ []) ∷ ps)
 printed_other c ps all =
     let each = (tests_all (is_word Subtag) (IsWord Subtag) (tests_word Subtag) ps).holds all in
-    let same : kept ps ≡ map lower ps = ap (map lower) (filter_all (is_word Subtag) ps each) in
-    ap (λ qs. lower (c ∷ []) ∷ cond (is_other_singleton (to_ascii_lowercase c)) qs (map lower ps)) same
-    ∙ both (is_other_singleton (to_ascii_lowercase c))
+    grind (arith, filter_all)
   where
     both : (b : Bool) → lower (c ∷ []) ∷ cond b (map lower ps) (map lower ps) ≡ map lower ((c ∷ []) ∷ ps)
     both true = refl
@@ -219,13 +233,7 @@ printed_other c ps all =
 
 some_kept : (ps : List Text) → list_any (is_word Subtag) ps ≡ true → 0 < length (kept ps)
 some_kept [] h = absurd (true≢false (sym h))
-some_kept (p ∷ ps) h =
-    (elim (is_word Subtag p) as
-    (λ b. (b || list_any (is_word Subtag) ps) ≡ true
-    → 0 < length (map lower (cond b (p ∷ filter (is_word Subtag) ps) (filter (is_word Subtag) ps)))) [
-      | true ↦ λ h. omega arith
-      | false ↦ some_kept ps
-    ]) h
+some_kept (p ∷ ps) h = grind (arith, some_kept ps)
 
 none_kept : (ps : List Text) → list_any (is_word Subtag) ps ≡ false → kept ps ≡ []
 none_kept [] h = refl
@@ -238,10 +246,7 @@ pub put_at : (c b start end : ℕ) (d : Bool) (old mid new : Spans) (o m n : Boo
     → to_ascii_lowercase c ≡ b → mid ≡ old → m ≡ o
     → IsPutOther (block_span b start end d) mid new m n good r
     → IsPutOther (block_span (to_ascii_lowercase c) start end d) old new o n good r
-put_at c b start end d old mid new o m n good r e f g h =
-    subst (λ (w : ℕ). IsPutOther (block_span w start end d) old new o n good r) (sym e)
-    (subst (λ (s : Spans). IsPutOther (block_span b start end d) s new o n good r) f
-    (subst (λ (x : Bool). IsPutOther (block_span b start end d) mid new x n good r) g h))
+put_at c b start end d old mid new o m n good r e f g h = grind arith
 
 module _ (c : ℕ) (l : Cursor) (other : is_other_singleton (to_ascii_lowercase c) ≡ true) where
   no_t_of_other : (P : Type 0) → ¬ ((to_ascii_lowercase c ≡ code_t) × P)
@@ -249,7 +254,7 @@ module _ (c : ℕ) (l : Cursor) (other : is_other_singleton (to_ascii_lowercase 
 
   bad_other : (k : Cursor) (old new : Spans) (o n : Bool) → ¬ (IsOther (front (pieces_left l)))
       → IsBody c l k old new o n Bad
-  bad_other k old new o n bad = (other_bad c (front (pieces_left l)) other bad, no_t_of_other _)
+  bad_other k old new o n bad = search (other_bad, no_t_of_other)
 
   -- none is a subtag
   none_good : (ps : List Text) → list_any (is_word Subtag) ps ≡ false → ¬ (IsOther ps)
@@ -265,19 +270,17 @@ module _ (c : ℕ) (l : Cursor) (other : is_other_singleton (to_ascii_lowercase 
       → (n ≡ true → (o ≡ true) × (d ≡ false)) → ReadsBlock c l ps old new o n
   good_other start end ps d old new o n are spanned body put order =
       let place =
-      subst (λ (w : ℕ). held_spans new ≡ held_spans old ++ block_span w start end d ∷ []) (sym own_rank) put
+      rw (← own_rank) at put
       in
       let free : AllByRecursion IsHyphenFree ps =
-      subst (AllByRecursion IsHyphenFree) body
-      (front_each IsHyphenFree (pieces_left l) (pieces_hyphen_free (bytes_left l))) in
+      rw body at (front_each IsHyphenFree (pieces_left l) (pieces_hyphen_free (bytes_left l))) in
       let letter = (and_parts _ _ other).0 in
       let same : d ≡ false → printed_part (singleton_part c ps) ≡ map lower ((c ∷ []) ∷ ps) =
       λ e. printed_other c ps (both_ways (list_all (is_word Subtag) ps) (sym are.edited ∙ e)) in
       record {
         body = body;
         good = other_good c ps other (record { lengths = are.each; nonempty = some_kept ps (sym are.good) });
-        puts = subst (λ parts. Puts (whole_text l) parts ((c ∷ []) ∷ ps) old new o n)
-            (sym (parts_alone c ps no_t_byte no_u_byte))
+        puts = rw (parts_alone c ps no_t_byte no_u_byte)
             (puts_one (whole_text l) _ (singleton_part c ps) old new o n place
             (singleton_span (whole_text l) c start end ps d spanned same
             (λ _. other_short c ps letter free are.each)) (omega arith)
@@ -307,29 +310,25 @@ module _ (c : ℕ) (l : Cursor) (other : is_other_singleton (to_ascii_lowercase 
 
     whole_body : front (pieces_left l) ≡ pieces_left l
     whole_body = front_whole (pieces_left l)
-        (subst (AllByRecursion IsLong) (sym all_pieces) (long_pieces _ h.are.each))
+        (rw all_pieces (long_pieces _ h.are.each))
 
     pub end_bad : (old new : Spans) (o n : Bool) → g ≡ false → IsBody c l m old new o n Bad
     end_bad old new o n e =
         bad_other m old new o n
-        (subst (λ ps. ¬ (IsOther ps)) (sym (whole_body ∙ all_pieces)) (none_good _ (sym h.are.good ∙ e)))
+        (rw (sym (whole_body ∙ all_pieces)) at (none_good _ (sym h.are.good ∙ e)))
 
     pub end_put : (start : ℕ) (old new : Spans) (o n : Bool) (r : Found) → g ≡ true → IsLater l
         → IsSpanned (whole_text l) start (l.at - 1) ((c ∷ []) ∷ [])
         → IsPutOther (block_span (to_ascii_lowercase c) start (m.at + m.piece_length) d) old new o n End r
         → IsBody c l m old new o n r
-    end_put start old new o n r e later spanned (inl full) =
-        subst (IsBody c l m old new o n) (sym full.0) (omega (arith, full.1))
+    end_put start old new o n r e later spanned (inl full) = grind arith
     end_put start old new o n r e later spanned (inr put) =
         let spans : IsSpanned (whole_text l) start (m.at + m.piece_length) ((c ∷ []) ∷ pieces_left l) =
-        subst (λ ps. IsSpanned (whole_text l) start (m.at + m.piece_length) ((c ∷ []) ∷ ps)) (sym all_pieces)
-        (spanned_end h.past end later spanned) in
+        rw all_pieces (spanned_end h.past end later spanned) in
         let are : ArePieces (pieces_left l) true d =
         subst (λ ps. ArePieces ps true d) (sym all_pieces)
-        (subst (λ x. ArePieces (h.words ++ (piece_left m ∷ [])) x d) e h.are) in
-        subst (IsBody c l m old new o n) (sym put.0)
-        (good_other start (m.at + m.piece_length) (pieces_left l) d old new o n are spans whole_body put.1
-        put.2)
+        (rw e at h.are) in
+        rw put.0 (search (good_other, whole_body))
 
   -- a piece of another length is reached
   module _ (m : Cursor) (g d : Bool) (h : PassesOther l m g d) where
@@ -337,16 +336,14 @@ module _ (c : ℕ) (l : Cursor) (other : is_other_singleton (to_ascii_lowercase 
         → IsBody c l m old new o n Bad
     next_none old new o n one e =
         bad_other m old new o n
-        (subst (λ ps. ¬ (IsOther ps))
-        (sym (front_ends l m h.words h.past.pieces (long_pieces h.words h.are.each) one))
-        (none_good h.words (sym h.are.good ∙ e)))
+        (grind (arith, front_ends, long_pieces, none_good))
 
     pub next_odd : (old new : Spans) (o n : Bool) → is_in_range 2 8 (length (piece_left m)) ≡ false
         → is_one_byte (piece_left m) ≡ false → IsBody c l m old new o n Bad
     next_odd old new o n odd longer =
         let body = front_goes_on l m h.words h.past.pieces (long_pieces h.words h.are.each) longer in
         bad_other m old new o n
-        (λ b. true≢false (sym (last_of h.words body.0 (subst (AllByRecursion IsBetween) body.1 b.lengths))
+        (λ b. true≢false (sym (last_of h.words body.0 (rw body.1 at b.lengths))
         ∙ odd))
       where
         last_of : (ws qs : List Text) → AllByRecursion IsBetween (ws ++ (piece_left m ∷ qs))
@@ -365,12 +362,11 @@ module _ (c : ℕ) (l : Cursor) (other : is_other_singleton (to_ascii_lowercase 
         → g ≡ true → IsLater l → IsSpanned (whole_text l) start (l.at - 1) ((c ∷ []) ∷ [])
         → IsPutOther (block_span (to_ascii_lowercase c) start (m.at - 1) d) old new o n Next r
         → IsBody c l m old new o n r
-    next_put start old new o n r one e later spanned (inl full) =
-        subst (IsBody c l m old new o n) (sym full.0) (omega (arith, full.1))
+    next_put start old new o n r one e later spanned (inl full) = grind arith
     next_put start old new o n r one e later spanned (inr put) =
         let body = front_ends l m h.words h.past.pieces (long_pieces h.words h.are.each) one in
-        let are = subst (λ x. ArePieces h.words x d) e h.are in
-        subst (IsBody c l m old new o n) (sym put.0) (
+        let are = rw e at h.are in
+        rw put.0 (
           h.words,
           h.past,
           one,

@@ -1,38 +1,60 @@
 -- From a head and blocks that were read to the outline of a text.
-use Rattle.std.proofs.Common.{◌≡◌, Bool, true, false, cond, List, [], ◌∷◌, ◌++◌, length, map, take, refl, sym}
-use Rattle.std.proofs.Common.{ap, ◌∙◌, subst, arith, None, append-nil, length-append}
-use Rattle.std.specs.List.{AllZip}
+use Rattle.std.proofs.Common.{◌≡◌, Bool, true, List, [], ◌∷◌, ◌++◌, length, map, refl, sym}
+use Rattle.std.proofs.Common.{ap, ◌∙◌, arith, None, append-nil, length-append}
 use Rattle.std.specs.Char.{to_ascii_lowercase}
 use Rattle.std.proofs.Math.Seq.{take-length}
 use Rattle.std.proofs.lemmas.List.{map-append}
-use Rattle.iloc_spec_grammar.specs.Syntax.{Text, Identifier, blocks, dashes, front, head, is_one_byte, join}
-use Rattle.iloc_spec_grammar.specs.Syntax.{languages, lower, pieces, tail_blocks}
-use Rattle.iloc_spec_grammar.specs.Meaning.{HasFault, IdentifierMeans, Means, normal_identifier}
+use Rattle.iloc_spec_grammar.specs.Syntax.{
+  Text,
+  Identifier,
+  blocks,
+  dashes,
+  front,
+  head,
+  join,
+  languages,
+  lower,
+  pieces,
+  tail_blocks,
+}
+use Rattle.iloc_spec_grammar.specs.Meaning.{IdentifierMeans, Means, normal_identifier}
 use Rattle.iloc_spec_grammar.specs.Tree.{meaning}
 use Rattle.iloc_spec_grammar.specs.Values.{identifier_text, text}
 use Rattle.iloc_spec_grammar.specs.Reading.{after_head, from_block, written_of}
 use Rattle.iloc_spec_grammar.specs.Computing.{first_fault}
 use Rattle.iloc_spec_grammar.proofs.PiecesLaws.{join-pieces}
 use Rattle.iloc_spec_grammar.proofs.PartTexts.{join-append}
-use Rattle.iloc_spec_grammar.proofs.Readings.{after_language, long_after_language}
+use Rattle.iloc_spec_grammar.proofs.Readings.{after_language, blocks_skip, long_after_language}
 use Rattle.iloc_subtags.specs.declared.parse_error.ParseError.{ParseError}
 use Rattle.iloc_outline.specs.Blocks.{AreBlocksRead, ReadsBlocks}
 use Rattle.iloc_outline.specs.Identifier.{front_text}
 use Rattle.iloc_pieces.specs.Cursor.{pieces_left, whole_text}
-use Rattle.iloc_outline.specs.Outlines.{Gives, IsIdentifierOutlined, IsLimit, IsLocaleOutlined, ReadsHead}
-use Rattle.iloc_outline.specs.Outlines.{parts_text}
+use Rattle.iloc_outline.specs.Outlines.{
+  Gives,
+  IsIdentifierOutlined,
+  IsLimit,
+  IsLocaleOutlined,
+  ReadsHead,
+  parts_text,
+}
 use Rattle.iloc_outline.specs.Parts.{Part, blocks_parts, front_pieces, variant_parts}
-use Rattle.iloc_outline.specs.Spans.{IsSpan, Spell}
 use Rattle.iloc_spans.specs.Spans.{held_spans}
 use Rattle.iloc_outline.specs.declared.blocks.Blocks.TheVariants.{Refused, Full}
 use Rattle.iloc_pieces.specs.declared.place.Cursor.{Cursor}
 use Rattle.iloc_outline.specs.declared.outline.Outline.{Outline}
 use Rattle.iloc_outline.specs.declared.outline.Outlined.TheVariants as outlined
 use Rattle.iloc_spans.specs.declared.spans.Spans.{Spans}
-use Rattle.iloc_outline.proofs.BlocksLemmas.{blocks_behind, blocks_skip, plain_variants}
+use Rattle.iloc_outline.proofs.BlocksLemmas.{blocks_behind, plain_variants}
 use Rattle.iloc_outline.proofs.BodyLemmas.{front_whole}
-use Rattle.iloc_outline.proofs.Meanings.{has_fault, identifier_text_is, means_read, parts_dashes}
-use Rattle.iloc_outline.proofs.Meanings.{parts_text-append, refused, text_is}
+use Rattle.iloc_outline.proofs.Meanings.{
+  has_fault,
+  identifier_text_is,
+  means_read,
+  parts_dashes,
+  parts_text-append,
+  refused,
+  text_is,
+}
 use Rattle.iloc_outline.proofs.SpansLemmas.{spell_length}
 
 -- ---- where blocks begin
@@ -45,18 +67,17 @@ all_head ps i m =
     let whole : front (after_language w) ≡ after_language w =
     front_whole (after_language w) (long_after_language w m.grammatical.words) in (
       ap head m.spelled ∙ ap (λ qs. w.language ∷ qs) whole ∙ sym m.spelled,
-      ap tail_blocks m.spelled ∙ ap blocks (sym (append-nil (after_language w)))
-          ∙ blocks_behind (after_language w) [] (ap front (append-nil (after_language w)) ∙ whole) refl,
+      cc (
+        m.spelled,
+        append-nil (after_language w),
+        blocks_behind (after_language w) []
+            (ap front (append-nil (after_language w)) ∙ whole) refl,
+      ),
     )
 
 blocks_from : (ps : List Text) → blocks (from_block ps) ≡ blocks ps
 blocks_from [] = refl
-blocks_from (p ∷ ps) = at (is_one_byte p) refl (blocks_from ps)
-  where
-    at : (b : Bool) → is_one_byte p ≡ b → blocks (from_block ps) ≡ blocks ps
-        → blocks (cond b (p ∷ ps) (from_block ps)) ≡ blocks (p ∷ ps)
-    at true e rest = refl
-    at false e rest = rest ∙ sym (blocks_skip p ps e)
+blocks_from (p ∷ ps) = grind (arith, blocks_skip, blocks_from ps)
 
 -- blocks begin behind the head
 pub blocks_after : (ps : List Text) → tail_blocks ps ≡ blocks (after_head ps)
@@ -88,13 +109,7 @@ lower-dashes (p ∷ ps) = lower-append (45 ∷ p) (dashes ps) ∙ (λ j. lower_d
 -- a text is given by an outline of all of it, and no span
 given_whole : (t : Text) (o : Outline) (none : Spans) (normal : Text) → held_spans none ≡ [] → normal
     ≡ front_text o.script o.region t → Gives t (whole t o) none normal
-given_whole t o none normal e same = record {
-  parts = [];
-  inside = omega arith;
-  spell = subst (λ ss. AllZip (IsSpan t) ss []) (sym e) tt;
-  text = same ∙ ap (front_text o.script o.region) (sym (take-length t))
-      ∙ sym (append-nil (front_text o.script o.region (take (length t) t)));
-}
+given_whole t o none normal e same = grind (arith, take-length, append-nil)
 
 -- ---- identifiers
 
@@ -105,15 +120,13 @@ module _ (t : Text) (o : Outline) (spans : Spans) (n : Bool) (h : ReadsHead t (p
     parts = variant_parts h.written.variants;
     inside = h.inside;
     spell = h.variants;
-    text = identifier_text_is (pieces t) h.written h.means
-        ∙ ap (λ x. x ++ parts_text (variant_parts h.written.variants)) (sym h.front);
+    text = cc (identifier_text_is (pieces t) h.written h.means, h.front);
   }
 
   in_order : n ≡ true → front_text o.script o.region t ≡ identifier_text (normal_identifier h.written)
   in_order e = h.order e [] (sym (join-pieces t) ∙ sym (append-nil (join (pieces t))))
       ∙ ap (λ x. join (front_pieces (normal_identifier h.written)) ++ x)
-      (ap (λ x. parts_text (variant_parts h.written.variants) ++ x) lower_nothing
-      ∙ append-nil (parts_text (variant_parts h.written.variants)))
+      (simp (lower_nothing, append-nil))
       ∙ sym (identifier_text_is (pieces t) h.written h.means)
 
   -- the identifier is all of the text
@@ -123,11 +136,7 @@ module _ (t : Text) (o : Outline) (spans : Spans) (n : Bool) (h : ReadsHead t (p
   -- and it is in order
   pub identifier_in_order : n ≡ true → (none : Spans) → held_spans none ≡ []
       → IsIdentifierOutlined t none (outlined.Normal (whole t o))
-  identifier_in_order e none z = (
-    normal_identifier h.written,
-    h.means,
-    given_whole t o none (identifier_text (normal_identifier h.written)) z (sym (in_order e)),
-  )
+  identifier_in_order e none z = search (given_whole, in_order)
 
 -- ---- locales without blocks
 
@@ -136,7 +145,7 @@ module _ (t : Text) (o : Outline) (spans : Spans) (n : Bool) (h : ReadsHead t (p
   alone = all_head (pieces t) (normal_identifier h.written) h.means
 
   means_head : IdentifierMeans languages (head (pieces t)) (normal_identifier h.written)
-  means_head = subst (λ ps. IdentifierMeans languages ps (normal_identifier h.written)) (sym alone.0) h.means
+  means_head = rw alone.0 h.means
 
   no_fault : first_fault languages [] (tail_blocks (pieces t)) ≡ None
   no_fault = ap (first_fault languages []) alone.1
@@ -154,7 +163,7 @@ module _ (t : Text) (o : Outline) (spans : Spans) (n : Bool) (h : ReadsHead t (p
   alone_outlined = (
     meaning (written_of (pieces t)),
     means_read t (normal_identifier h.written) means_head no_fault,
-    subst (Gives t o spans) (sym same_text) (identifier_given t o spans n h),
+    rw same_text (identifier_given t o spans n h),
   )
 
   -- and it is in order
@@ -186,66 +195,40 @@ module _ (t : Text) (o : Outline) (before : Spans) (m : Bool) (l : Cursor)
   normal_text : first_fault languages [] (blocks (pieces_left l)) ≡ None
       → text (meaning (written_of (pieces t))) ≡ join
       (front_pieces (normal_identifier h.written)) ++ parts_text (variants ++ parts)
-  normal_text e = text_is t h.written h.means (ap (first_fault languages []) its_blocks ∙ e)
-      ∙ ap (λ bs. join (front_pieces (normal_identifier h.written)) ++ parts_text
-      (variants ++ blocks_parts bs)) its_blocks
+  normal_text e = grind (arith, text_is, its_blocks)
 
   means_it : first_fault languages [] (blocks (pieces_left l)) ≡ None
       → Means languages t (meaning (written_of (pieces t)))
-  means_it e = means_read t (normal_identifier h.written) h.means
-      (ap (first_fault languages []) its_blocks ∙ e)
+  means_it e = search (means_read, its_blocks)
 
   -- the blocks are good
   pub locale_outlined : ReadsBlocks l before spans m n → IsLocaleOutlined t spans (outlined.Normal o)
-  locale_outlined r = (
-    meaning (written_of (pieces t)),
-    means_it r.good,
-    record {
-      parts = variants ++ parts;
-      inside = h.inside;
-      spell = subst (λ x. Spell x spans (variants ++ parts)) same
-          (r.adds variants (plain_variants h.written.variants)
-          (subst (λ x. Spell x before variants) (sym same) h.variants));
-      text = normal_text r.good ∙ ap (λ x. x ++ parts_text (variants ++ parts)) (sym h.front);
-    },
-  )
+  locale_outlined r = grind (arith, means_it, plain_variants, normal_text)
 
   -- the text goes on behind its head
   goes_on : t ≡ join (head (pieces t)) ++ dashes (pieces_left l)
   goes_on = sym (join-pieces t) ∙ ap join cut ∙
-      (ap (λ ps. join (ps ++ pieces_left l)) h.means.spelled ∙ join-append _ _ (pieces_left l)
-      ∙ ap (λ ps. join ps ++ dashes (pieces_left l)) (sym h.means.spelled))
+      (grind (arith, join-append))
 
   -- and all is in order
   pub locale_in_order : ReadsBlocks l before spans m n → n ≡ true → (none : Spans) → held_spans none ≡ []
       → IsLocaleOutlined t none (outlined.Normal (whole t o))
-  locale_in_order r e none z =
-      let both = r.order e in
-      let front = join (front_pieces (normal_identifier h.written)) in
-      let rest : lower (dashes (pieces_left l)) ≡ parts_text parts = lower-dashes (pieces_left l)
-      ∙ ap dashes (sym both.1) ∙ parts_dashes parts in (
-        meaning (written_of (pieces t)),
-        means_it r.good,
-        given_whole t o none (text (meaning (written_of (pieces t)))) z (
-            normal_text r.good ∙ ap (λ x. front ++ x) (parts_text-append variants parts
-            ∙ ap (λ x. parts_text variants ++ x) (sym rest))
-            ∙ sym (h.order both.0 (dashes (pieces_left l)) goes_on)
-            ),
-      )
+  locale_in_order r e none z = grind (
+    arith,
+    lower-dashes,
+    parts_dashes,
+    means_it,
+    given_whole,
+    normal_text,
+    parts_text-append,
+    goes_on,
+  )
 
   -- a block is bad
   pub locale_refused : (e : ParseError) → AreBlocksRead l before spans m n (Refused e)
       → IsLocaleOutlined t spans (outlined.Refused e)
-  locale_refused e r = refused (HasFault languages t) r.0 e r.2
-      (has_fault t (normal_identifier h.written) r.0 h.means (ap (first_fault languages []) its_blocks ∙ r.1))
+  locale_refused e r = search (refused, has_fault, its_blocks)
 
   -- there is no room for what the pieces may need
   pub locale_full : AreBlocksRead l before spans m n Full → IsLimit t
-  locale_full r = omega (
-    arith,
-    r,
-    h.few,
-    spell_length t before variants h.variants,
-    ap length cut,
-    length-append (head (pieces t)) (pieces_left l),
-  )
+  locale_full r = grind (arith, spell_length, length-append)

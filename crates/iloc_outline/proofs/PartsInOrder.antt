@@ -5,8 +5,19 @@ use Rattle.std.specs.Ordering.{nat_cmp}
 use Rattle.std.specs.FinMap.{nat_cmp-IsAntisymmetric}
 use Rattle.std.proofs.lemmas.List.Folds.{flat_map-map}
 use Rattle.std.proofs.lemmas.Simd.{map-map}
-use Rattle.iloc_spec_grammar.specs.Syntax.{Text, Fields, Attribute, Variant, IsWord, IsKeyword, IsField}
-use Rattle.iloc_spec_grammar.specs.Syntax.{lower, word_cmp, first_piece, fields_pieces}
+use Rattle.iloc_spec_grammar.specs.Syntax.{
+  Text,
+  Fields,
+  Attribute,
+  Variant,
+  IsWord,
+  IsKeyword,
+  IsField,
+  lower,
+  word_cmp,
+  first_piece,
+  fields_pieces,
+}
 use Rattle.iloc_spec_grammar.specs.Meaning.{map_of, set_of, normal_values, normal_fields}
 use Rattle.iloc_spec_grammar.specs.Reading.{rest_of}
 use Rattle.iloc_spec_grammar.specs.Values.{spelled_value, spelled_fields}
@@ -115,14 +126,12 @@ words_printed r ws h =
 -- variants are printed as their set
 pub variants_printed : (ws : List Text) → AllByRecursion (IsWord Variant) ws
     → flat_map printed_part (variant_parts ws) ≡ set_of (map lower ws)
-variants_printed ws h = words_printed roles.Variant ws
-    (all_weaker (IsWord Variant) _ (λ w k. (variant_fits w k, refl)) ws h)
+variants_printed ws h = search (words_printed, all_weaker, variant_fits)
 
 -- so are attributes
 pub attributes_printed : (ws : List Text) → AllByRecursion (IsWord Attribute) ws
     → flat_map printed_part (in_order (map (word_part roles.Attribute) ws)) ≡ set_of (map lower ws)
-attributes_printed ws h = words_printed roles.Attribute ws
-    (all_weaker (IsWord Attribute) _ (λ w k. (attribute_fits w k, refl)) ws h)
+attributes_printed ws h = search (words_printed, all_weaker, attribute_fits)
 
 -- keywords are printed as their map
 pub keywords_printed : (fs : Fields) → AllByRecursion IsKeyword fs

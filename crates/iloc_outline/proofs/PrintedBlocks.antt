@@ -1,26 +1,82 @@
 -- What the parts of a good block print is what its value prints.
-use Rattle.std.proofs.Common.{◌≡◌, ◌⊎◌, inl, inr, ℕ, ◌+◌, ◌<◌, ◌==◌, Bool, true, false, cond, List, [], ◌∷◌}
-use Rattle.std.proofs.Common.{◌++◌, length, map, flat_map, refl, sym, ap, ◌∙◌, arith, Option, Some, None}
-use Rattle.std.proofs.Common.{option_map, option_to_list, append_assoc, length-append, append-nil, subst}
-use Rattle.std.proofs.Common.{IfSome, if◌then◌else◌}
+use Rattle.std.proofs.Common.{
+  ◌≡◌,
+  ◌⊎◌,
+  inl,
+  inr,
+  ℕ,
+  ◌+◌,
+  ◌<◌,
+  ◌==◌,
+  Bool,
+  true,
+  false,
+  cond,
+  List,
+  [],
+  ◌∷◌,
+  ◌++◌,
+  length,
+  map,
+  flat_map,
+  refl,
+  sym,
+  ap,
+  ◌∙◌,
+  arith,
+  Option,
+  Some,
+  None,
+  option_map,
+  append_assoc,
+  length-append,
+  append-nil,
+  IfSome,
+  if◌then◌else◌,
+}
 use Rattle.std.specs.Char.{is_ascii_alphanumeric, to_ascii_lowercase}
 use Rattle.std.specs.declared.cmp.Ordering.{Ordering}
-use Rattle.std.specs.declared.cmp.Ordering.TheVariants.{Less, Equal, Greater}
 use Rattle.std.specs.FinMap.{put}
-use Rattle.std.specs.FinMap.Entries.{by_order}
 use Rattle.std.proofs.lemmas.Bool.{ne_eqb}
 use Rattle.std.proofs.lemmas.List.{length-map}
 use Rattle.std.proofs.lemmas.List.Concat.{flat_map-append}
-use Rattle.iloc_spec_grammar.specs.Syntax.{Text, Block, SpelledIdentifier, SpelledUnicode, SpelledTransform}
-use Rattle.iloc_spec_grammar.specs.Syntax.{Fields, IsIdentifier, code_t, code_u, code_x, lower, word_cmp}
-use Rattle.iloc_spec_grammar.specs.Syntax.{title, upper, kept, is_other_singleton, lower_singleton}
-use Rattle.iloc_spec_grammar.specs.Syntax.{fields_pieces, unicode_pieces, identifier_pieces, optional_pieces}
-use Rattle.iloc_spec_grammar.specs.Syntax.{IsOther, IsPrivate}
-use Rattle.iloc_spec_grammar.specs.Meaning.{map_of, set_of, normal_identifier, normal_fields, normal_values}
-use Rattle.iloc_spec_grammar.specs.Meaning.{normal_unicode, normal_transform}
+use Rattle.iloc_spec_grammar.specs.Syntax.{
+  Text,
+  Block,
+  SpelledIdentifier,
+  SpelledUnicode,
+  SpelledTransform,
+  Fields,
+  IsIdentifier,
+  code_t,
+  code_u,
+  code_x,
+  lower,
+  kept,
+  is_other_singleton,
+  lower_singleton,
+  fields_pieces,
+  optional_pieces,
+  IsOther,
+  IsPrivate,
+}
+use Rattle.iloc_spec_grammar.specs.Meaning.{
+  map_of,
+  set_of,
+  normal_identifier,
+  normal_fields,
+  normal_unicode,
+  normal_transform,
+}
 use Rattle.iloc_spec_grammar.specs.Tree.{IsUnicodeBlock, IsTransformBlock, IsExtension}
-use Rattle.iloc_spec_grammar.specs.Values.{printed_pieces, spelled_fields, unicode_spelling}
-use Rattle.iloc_spec_grammar.specs.Values.{transform_spelling, other_spelling, private_spelling}
+use Rattle.iloc_spec_grammar.specs.Values.{
+  printed_pieces,
+  spelled_fields,
+  unicode_spelling,
+  transform_spelling,
+  other_spelling,
+  private_spelling,
+}
 use Rattle.iloc_spec_grammar.specs.Reading.{unicode_of, transform_of, extension_of}
 use Rattle.iloc_spec_grammar.specs.Computing.{is_block}
 use Rattle.iloc_spec_grammar.proofs.General.{all_mapped, all_of}
@@ -28,14 +84,35 @@ use Rattle.iloc_spec_grammar.proofs.ValuesLaws.{map_fixed, length-spelled_fields
 use Rattle.iloc_spec_grammar.proofs.WellRead.{all-set_of}
 use Rattle.iloc_spec_grammar.proofs.WordsLaws.{lower-lower, lower-title, lower-upper}
 use Rattle.iloc_spec_grammar.proofs.RuleTests.{tests_block, extension_read}
-use Rattle.iloc_spec_grammar.proofs.Singletons.{of_u, of_t, of_x, another, kind_of, lower_letter, no_t, no_u}
-use Rattle.iloc_spec_grammar.proofs.Singletons.{no_x}
-use Rattle.iloc_outline.specs.Parts.{Part, singleton_part, front_pieces, variant_parts, optional_front}
-use Rattle.iloc_outline.specs.Parts.{optional_variants, unicode_parts, transform_parts, in_order, field_part}
-use Rattle.iloc_outline.specs.Parts.{block_parts, printed_part}
+use Rattle.iloc_spec_grammar.proofs.Singletons.{
+  of_u,
+  of_t,
+  of_x,
+  another,
+  kind_of,
+  lower_letter,
+  no_t,
+  no_u,
+  no_x,
+}
+use Rattle.iloc_outline.specs.Parts.{
+  Part,
+  singleton_part,
+  variant_parts,
+  optional_front,
+  optional_variants,
+  unicode_parts,
+  transform_parts,
+  block_parts,
+  printed_part,
+}
 use Rattle.iloc_spans.specs.declared.span.Role.TheVariants as roles
-use Rattle.iloc_outline.proofs.PartsInOrder.{variants_printed, attributes_printed, keywords_printed}
-use Rattle.iloc_outline.proofs.PartsInOrder.{values_printed}
+use Rattle.iloc_outline.proofs.PartsInOrder.{
+  variants_printed,
+  attributes_printed,
+  keywords_printed,
+  values_printed,
+}
 
 -- what a block prints by its value; c is its singleton in lower case
 abbrev pub spelled : ℕ → List Text → List Text
@@ -53,13 +130,7 @@ printed_some c (p ∷ ps) h = refl
 some_put : {K X : Type 0} (R : K → K → Ordering) (k : K) (v : X) (es : List (K × X))
     → 0 < length (put R k v es)
 some_put R k v [] = omega arith
-some_put R k v (e ∷ es) = elim (R k e.0) as (λ r. 0 < length
-    (by_order r ((k, v) ∷ e ∷ es) ((e.0, v) ∷ es) (e ∷ put R k v es))) [
-      | Less ↦ omega arith
-      | Equal ↦
-          omega arith
-      | Greater ↦ omega arith
-    ]
+some_put R k v (e ∷ es) = grind arith
 
 some_map : {K X : Type 0} (R : K → K → Ordering) (es : List (K × X)) → 0 < length es
     → 0 < length (map_of R es)
@@ -78,45 +149,19 @@ set_low ws = map_fixed lower (set_of (map lower ws))
     (all_mapped (λ (w : Text). lower (lower w) ≡ lower w) (λ w. lower w ≡ w) lower (λ w e. e) ws
     (all_of _ lower-lower ws)))
 
--- the normal identifier in lower case: its front, and its variants as a set
-pub identifier_low : (i : SpelledIdentifier) → map lower (identifier_pieces (normal_identifier i))
-    ≡ map lower (front_pieces i) ++ set_of (map lower i.variants)
-identifier_low i = from i.script i.region
-  where
-    from : (s r : Option Text) → map lower (lower i.language ∷
-        (option_to_list (option_map title s) ++ (option_to_list (option_map upper r) ++ set_of
-        (map lower i.variants))))
-        ≡ map lower (i.language ∷ (option_to_list s ++ option_to_list r)) ++ set_of (map lower i.variants)
-    from None None = λ j. lower-lower i.language j ∷ set_low i.variants j
-    from None (Some r) = λ j. lower-lower i.language j ∷ lower-upper r j ∷ set_low i.variants j
-    from (Some s) None = λ j. lower-lower i.language j ∷ lower-title s j ∷ set_low i.variants j
-    from (Some s) (Some r) =
-        λ j. lower-lower i.language j ∷ lower-title s j ∷ lower-upper r j ∷ set_low i.variants j
-
 -- ---- singletons
-
-singleton_printed : (c : ℕ) (ps : List Text) → printed_part (singleton_part c ps)
-    ≡ (to_ascii_lowercase c ∷ []) ∷ cond (is_other_singleton (to_ascii_lowercase c)) (kept ps) (map lower ps)
-unfolding lower
-singleton_printed c ps = refl
 
 -- ---- each block
 
 some_words : (ws : List Text) → 0 < length ws → 0 < length (set_of ws)
-some_words ws h = omega (
-  arith,
-  some_map word_cmp (map (λ w. (w, w)) ws)
-      (omega (arith, length-map {B = Text × Text} ws (λ w. (w, w)))),
-  length-map (map_of word_cmp (map (λ w. (w, w)) ws)) (λ (e : Text × Text). e.0),
-)
+some_words ws h = search (some_map, length-map)
 
 some_normal : (fs : Fields) → 0 < length fs → 0 < length (normal_fields fs)
-some_normal fs h = some_map word_cmp (map (λ (f : Text × List Text). (lower f.0, normal_values f.1)) fs)
-    (omega (arith, length-map {B = Text × List Text} fs (λ f. (lower f.0, normal_values f.1))))
+some_normal fs h = search (some_map, length-map)
 
 some_unicode : (ws : List Text) (fs : Fields) → 0 < length ws + length fs
     → 0 < length (set_of (map lower ws) ++ fields_pieces (normal_fields fs))
-some_unicode [] fs h = some_fields (normal_fields fs) (some_normal fs (omega arith))
+some_unicode [] fs h = grind (arith, some_fields, some_normal)
 some_unicode (w ∷ ws) fs h = omega (
   arith,
   some_words (map lower (w ∷ ws)) (omega arith),
@@ -127,52 +172,51 @@ unicode_printed : (u : SpelledUnicode) → IsUnicodeBlock u →
     (code_u ∷ []) ∷ flat_map printed_part (unicode_parts u)
     ≡ unicode_spelling (normal_unicode u)
 unfolding unicode_spelling
-unicode_printed u h =
-    ap (λ l. (code_u ∷ []) ∷ l) (flat_map-append printed_part (in_order (map _ u.attributes))
-    (in_order (map _ u.keywords))
-    ∙ (λ j. attributes_printed u.attributes h.attributes j ++ keywords_printed u.keywords h.keywords j))
-    ∙ sym (printed_some code_u (unicode_pieces (normal_unicode u))
-    (some_unicode u.attributes u.keywords h.nonempty))
+unicode_printed u h = search (
+  flat_map-append,
+  attributes_printed,
+  keywords_printed,
+  printed_some,
+  some_unicode,
+)
 
 some_transform : (o : Option SpelledIdentifier) (fs : Fields) → (o ≡ None → 0 < length fs)
     → 0 < length (map lower (optional_pieces (option_map normal_identifier o)) ++ fields_pieces
     (spelled_fields (normal_fields fs)))
-some_transform None fs h = some_fields (spelled_fields (normal_fields fs))
-    (omega (arith, some_normal fs (h refl), length-spelled_fields (normal_fields fs)))
+some_transform None fs h = search (some_fields, some_normal, length-spelled_fields)
 some_transform (Some i) fs h = omega arith
 
 optional_printed : (T : ℕ → Bool) (o : Option SpelledIdentifier) → IfSome o (IsIdentifier T)
     → map lower (optional_front o) ++ flat_map printed_part (variant_parts (optional_variants o))
     ≡ map lower (optional_pieces (option_map normal_identifier o))
 optional_printed T None h = refl
-optional_printed T (Some i) h = ap (λ l. map lower (front_pieces i) ++ l)
-    (variants_printed i.variants h.words.variants) ∙ sym (identifier_low i)
+optional_printed T (Some i) h = grind (
+  arith,
+  variants_printed,
+  lower-lower,
+  set_low,
+  lower-upper,
+  lower-title,
+)
 
 transform_printed : (T : ℕ → Bool) (m : SpelledTransform) → IsTransformBlock T m
     → (code_t ∷ []) ∷ (map lower (optional_front m.id) ++ flat_map printed_part (transform_parts m))
     ≡ transform_spelling (normal_transform m)
 unfolding transform_spelling
-transform_printed T m h =
-    let front : List Text = map lower (optional_front m.id) in
-    let variants : List Part = variant_parts (optional_variants m.id) in
-    let fields : List Part = in_order (map (field_part roles.Field) m.fields) in
-    ap (λ l. (code_t ∷ []) ∷ l) (
-    ap (λ l. front ++ l) (flat_map-append printed_part variants fields)
-    ∙ sym (append_assoc front (flat_map printed_part variants) (flat_map printed_part fields))
-    ∙ (λ j. optional_printed T m.id h.id j ++ values_printed m.fields h.fields j))
-    ∙ sym
-    (printed_some code_t (map lower (optional_pieces (option_map normal_identifier m.id)) ++ fields_pieces
-    (spelled_fields (normal_fields m.fields))) (some_transform m.id m.fields h.nonempty))
+transform_printed T m h = grind (
+  arith,
+  flat_map-append,
+  append_assoc,
+  optional_printed,
+  values_printed,
+  printed_some,
+  some_transform,
+)
 
 private_printed : (ps : List Text) → IsPrivate ps → (code_x ∷ []) ∷ map lower ps
     ≡ private_spelling (map lower ps)
 unfolding private_spelling
-private_printed ps h =
-    sym (printed_some code_x (map lower ps) (omega (arith, length-map ps lower, h.nonempty)))
-
-other_printed : (c : ℕ) (ps : List Text) → IsOther ps → (c ∷ []) ∷ kept ps ≡ other_spelling (c, kept ps)
-unfolding other_spelling
-other_printed c ps h = sym (printed_some c (kept ps) h.nonempty)
+private_printed ps h = search (printed_some, length-map)
 
 -- ---- all
 
@@ -186,21 +230,19 @@ parts_at c b = if c == code_t then singleton_part b.0 (optional_front (transform
 start : (c d : ℕ) → to_ascii_lowercase c ≡ d → (ps : List Text) (rest : List Part)
     → flat_map printed_part (singleton_part c ps ∷ rest)
     ≡ (d ∷ []) ∷ (cond (is_other_singleton d) (kept ps) (map lower ps) ++ flat_map printed_part rest)
-start c d e ps rest = ap (λ l. l ++ flat_map printed_part rest) (singleton_printed c ps)
-    ∙ ap
-    (λ n. (n ∷ []) ∷ (cond (is_other_singleton n) (kept ps) (map lower ps) ++ flat_map printed_part rest)) e
+unfolding lower
+start c d e ps rest = grind (arith)
 
 abbrev pub Rule : (ℕ → Bool) → ℕ → List Text → Type 0
 Rule T c ps = ((c ≡ code_x) × IsPrivate ps) ⊎ IsExtension T c (extension_of c ps)
 
 -- a good block follows the rule of its singleton
 pub rule_of : (T : ℕ → Bool) (b : Block) (c : ℕ) → lower_singleton b ≡ c → is_block T b ≡ true → Rule T c b.1
-rule_of T b c e g = subst (λ n. Rule T n b.1) e
-    (elim ((tests_block T b).holds g) [
-      | inl x ↦ inl x
-      | inr x ↦
-          inr (extension_read T (lower_singleton b) b.1 x)
-    ])
+rule_of T b c e g = rw (← e) (elim ((tests_block T b).holds g) [
+  | inl x ↦ inl x
+  | inr x ↦
+      inr (extension_read T (lower_singleton b) b.1 x)
+])
 
 u_rule : (T : ℕ → Bool) (ps : List Text) → Rule T code_u ps → IsUnicodeBlock (unicode_of ps)
 u_rule T ps (inl x) = absurd (let e = x.0 in omega arith)
@@ -217,14 +259,12 @@ x_rule T ps (inr x) = absurd (no_x code_x refl x.0)
 
 other_rule : (T : ℕ → Bool) (c : ℕ) (ps : List Text) → is_other_singleton c ≡ true → Rule T c ps → IsOther ps
 other_rule T c ps o (inl x) = absurd (no_x c x.0 o)
-other_rule T c ps o (inr x) =
-    let t : (c == code_t) ≡ false = ne_eqb _ _ (λ e. no_t c e o) in
-    let u : (c == code_u) ≡ false = ne_eqb _ _ (λ e. no_u c e o) in
-    (rw (t, u) at x).1
+other_rule T c ps o (inr x) = grind (arith, ne_eqb, no_t, no_u)
 
 -- the parts of a good block print what its value prints
 pub block_printed : (T : ℕ → Bool) (b : Block) → is_ascii_alphanumeric b.0 ≡ true → is_block T b ≡ true
     → flat_map printed_part (block_parts b) ≡ spelled (lower_singleton b) b.1
+unfolding other_spelling
 block_printed T b a g = elim (kind_of (lower_singleton b) (lower_letter b.0 a)) [
   | of_u k ↦
       ap (λ c. flat_map printed_part (parts_at c b)) k
@@ -246,7 +286,7 @@ block_printed T b a g = elim (kind_of (lower_singleton b) (lower_letter b.0 a)) 
       let k : IsOther b.1 = other_rule T c b.1 o (rule_of T b c refl g) in
       let one : flat_map printed_part (singleton_part b.0 b.1 ∷ []) ≡ other_spelling (c, kept b.1) =
       start b.0 c refl b.1 [] ∙ ap (λ h. (c ∷ []) ∷ (cond h (kept b.1) (map lower b.1) ++ [])) o
-      ∙ ap (λ l. (c ∷ []) ∷ l) (append-nil (kept b.1)) ∙ other_printed c b.1 k in
+      ∙ ap (λ l. (c ∷ []) ∷ l) (append-nil (kept b.1)) ∙ (search printed_some) in
       (λ j. flat_map printed_part (cond (t j) (singleton_part b.0
       (optional_front (transform_of b.1).id) ∷ transform_parts (transform_of b.1))
       (cond (u j) (singleton_part b.0 [] ∷ unicode_parts (unicode_of b.1))

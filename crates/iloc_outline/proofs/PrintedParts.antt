@@ -1,12 +1,12 @@
 -- The parts of good blocks, by the ranks of these, print what the blocks mean.
 use Rattle.std.proofs.Common.{◌≡◌, ◌≢◌, ℕ, ◌<◌, ◌==◌, ◌&&◌, Bool, true, false, not, cond, List, [], ◌∷◌, ◌++◌}
-use Rattle.std.proofs.Common.{map, flat_map, filter_map, refl, sym, ap, ◌∙◌, subst, arith, Option, Some, None}
+use Rattle.std.proofs.Common.{map, flat_map, filter_map, refl, sym, ap, ◌∙◌, arith, Option, Some, None}
 use Rattle.std.proofs.Common.{append_assoc, append-nil, nat_le}
 use Rattle.std.specs.List.{AllByRecursion, list_any}
 use Rattle.std.specs.Char.{is_ascii_alphanumeric, to_ascii_lowercase}
 use Rattle.std.specs.Ordering.{nat_cmp, eq_by_cmp, is_lt}
 use Rattle.std.specs.Cmp.{nat_cmp_total}
-use Rattle.std.specs.FinMap.{put, find, is_sorted, nat_cmp-IsAntisymmetric}
+use Rattle.std.specs.FinMap.{find, is_sorted, nat_cmp-IsAntisymmetric}
 use Rattle.std.specs.FinMap.Entries.{below_all}
 use Rattle.std.proofs.lemmas.Bool.{and_parts, cond_both, ne_eqb}
 use Rattle.std.proofs.lemmas.Bool.Decides.{nat_tests}
@@ -15,14 +15,46 @@ use Rattle.std.proofs.lemmas.List.Concat.{flat_map-append}
 use Rattle.std.proofs.lemmas.Simd.{map-map}
 use Rattle.std.proofs.lemmas.Str.Ascii.{lowercase-lowercase}
 use Rattle.std.proofs.lemmas.List.{map-append}
-use Rattle.iloc_spec_grammar.specs.Syntax.{code_u, Text, LanguageLengths, Block, code_t, code_x, lower, kept}
-use Rattle.iloc_spec_grammar.specs.Syntax.{languages, is_other_singleton, lower_singleton, tail_blocks}
-use Rattle.iloc_spec_grammar.specs.Meaning.{map_of, no_transform, no_unicode, InvalidExtension}
-use Rattle.iloc_spec_grammar.specs.Meaning.{DuplicatedExtension, InvalidSubtag}
-use Rattle.iloc_spec_grammar.specs.Tree.{Extension, unicode_part, transform_part, private_part, other_part}
-use Rattle.iloc_spec_grammar.specs.Tree.{by_singleton, extensions_meaning, before_t, after_t}
-use Rattle.iloc_spec_grammar.specs.Values.{unicode_spelling, transform_spelling, other_spelling}
-use Rattle.iloc_spec_grammar.specs.Values.{private_spelling, extensions_spelling}
+use Rattle.iloc_spec_grammar.specs.Syntax.{
+  code_u,
+  Text,
+  LanguageLengths,
+  Block,
+  code_t,
+  code_x,
+  lower,
+  kept,
+  languages,
+  is_other_singleton,
+  lower_singleton,
+  tail_blocks,
+}
+use Rattle.iloc_spec_grammar.specs.Meaning.{
+  map_of,
+  no_transform,
+  no_unicode,
+  InvalidExtension,
+  DuplicatedExtension,
+  InvalidSubtag,
+}
+use Rattle.iloc_spec_grammar.specs.Tree.{
+  Extension,
+  unicode_part,
+  transform_part,
+  private_part,
+  other_part,
+  by_singleton,
+  extensions_meaning,
+  before_t,
+  after_t,
+}
+use Rattle.iloc_spec_grammar.specs.Values.{
+  unicode_spelling,
+  transform_spelling,
+  other_spelling,
+  private_spelling,
+  extensions_spelling,
+}
 use Rattle.iloc_spec_grammar.specs.Reading.{extension_of, extensions_in, private_in, written_of}
 use Rattle.iloc_spec_grammar.specs.Computing.{is_block, repeats_variant, first_fault}
 use Rattle.iloc_spec_grammar.proofs.FaultLaws.{EndsAtX, tail_ends}
@@ -31,8 +63,19 @@ use Rattle.iloc_spec_grammar.proofs.MapLaws.{all-map_of, is_sorted-map_of, map_o
 use Rattle.iloc_spec_grammar.proofs.ReadBack.{all_append}
 use Rattle.iloc_spec_grammar.proofs.PartTexts.{spelling_of_parts, private_spelling_none}
 use Rattle.iloc_spec_grammar.proofs.ValuesLaws.{all_weaker}
-use Rattle.iloc_spec_grammar.proofs.Singletons.{of_u, of_t, of_x, another, kind_of, lower_letter, no_t, no_u}
-use Rattle.iloc_spec_grammar.proofs.Singletons.{no_x, tied, untied}
+use Rattle.iloc_spec_grammar.proofs.Singletons.{
+  of_u,
+  of_t,
+  of_x,
+  another,
+  kind_of,
+  lower_letter,
+  no_t,
+  no_u,
+  no_x,
+  tied,
+  untied,
+}
 use Rattle.iloc_outline.specs.Parts.{Part, rank, ranked, blocks_parts, printed_part}
 use Rattle.iloc_outline.proofs.Maps.{map_of_carried, put_between, flat, flat-append, flat-last}
 use Rattle.iloc_outline.proofs.PrintedBlocks.{spelled, block_printed}
@@ -74,19 +117,11 @@ private_at (b ∷ bs) = cond (b.0 == code_x) (map lower b.1) (private_at bs)
 
 low_extensions : (bs : List Block) → by_singleton (extensions_in bs) ≡ extensions_at (by_singleton bs)
 low_extensions [] = refl
-low_extensions (b ∷ bs) = elim (lower_singleton b == code_x) as
-    (λ t. by_singleton (cond t [] ((b.0, extension_of (lower_singleton b) b.1) ∷ extensions_in bs))
-    ≡ cond t [] ((lower_singleton b, extension_of (lower_singleton b) b.1) ∷ extensions_at
-    (by_singleton bs))) [
-      | true ↦ refl
-      | false ↦ ap (λ l. (lower_singleton b, extension_of (lower_singleton b) b.1) ∷ l) (low_extensions bs)
-    ]
+low_extensions (b ∷ bs) = grind (arith, low_extensions bs)
 
 low_private : (bs : List Block) → private_part (private_in bs) ≡ private_at (by_singleton bs)
 low_private [] = refl
-low_private (b ∷ bs) = elim (lower_singleton b == code_x) as
-    (λ t. private_part (cond t (Some b) (private_in bs))
-    ≡ cond t (map lower b.1) (private_at (by_singleton bs))) [ true ↦ refl | false ↦ low_private bs ]
+low_private (b ∷ bs) = grind (arith, low_private bs)
 
 -- ---- what is printed of it, by ranks
 
@@ -113,13 +148,7 @@ shadowed false x y z = refl
 swapped : {A : Type 0} (q k l : ℕ) → k ≢ l → (x y z : A)
     → cond (eq_by_cmp nat_cmp q k) x (cond (eq_by_cmp nat_cmp q l) y z)
     ≡ cond (eq_by_cmp nat_cmp q l) y (cond (eq_by_cmp nat_cmp q k) x z)
-swapped q k l n x y z = at (eq_by_cmp nat_cmp q k) refl (eq_by_cmp nat_cmp q l) refl
-  where
-    at : (a : Bool) → eq_by_cmp nat_cmp q k ≡ a → (b : Bool) → eq_by_cmp nat_cmp q l ≡ b
-        → cond a x (cond b y z) ≡ cond b y (cond a x z)
-    at true e true f = absurd (n (tied q k e ∙ sym (tied q l f)))
-    at true e false f = refl
-    at false e b f = refl
+swapped q k l n x y z = grind (arith, tied)
 
 no_transform_shown : transform_spelling no_transform ≡ []
 unfolding transform_spelling
@@ -135,22 +164,13 @@ Agree bs q = find nat_cmp q (shown (extensions_at bs) (private_at bs))
     ≡ find nat_cmp q (shown_blocks bs ++ nothing)
 
 at_t : (ps : List Text) (bs : List Block) (q : ℕ) → Agree bs q → Agree ((code_t, ps) ∷ bs) q
-at_t ps bs q e = shadowed (eq_by_cmp nat_cmp q code_t) _ _ _
-    ∙ ap (cond (eq_by_cmp nat_cmp q code_t) (Some (spelled code_t ps))) e
+at_t ps bs q e = grind (arith, shadowed, spelled)
 
 at_u : (ps : List Text) (bs : List Block) (q : ℕ) → Agree bs q → Agree ((code_u, ps) ∷ bs) q
-at_u ps bs q e =
-    ap (cond (eq_by_cmp nat_cmp q code_t) _) (shadowed (eq_by_cmp nat_cmp q code_u) _ _ _)
-    ∙ swapped q code_t code_u (λ e. omega arith) _ _ _
-    ∙ ap (cond (eq_by_cmp nat_cmp q code_u) (Some (spelled code_u ps))) e
+at_u ps bs q e = grind (arith, shadowed, swapped, spelled)
 
 at_x : (ps : List Text) (q : ℕ) → Agree ((code_x, ps) ∷ []) q
-at_x ps q =
-    (λ j. cond (eq_by_cmp nat_cmp q code_t) (Some (no_transform_shown j))
-    (cond (eq_by_cmp nat_cmp q code_u) (Some (no_unicode_shown j))
-    (shadowed (eq_by_cmp nat_cmp q 255) (Some (spelled code_x ps)) (Some []) None j)))
-    ∙ ap (cond (eq_by_cmp nat_cmp q code_t) (Some [])) (swapped q code_u 255 (λ e. omega arith) _ _ _)
-    ∙ swapped q code_t 255 (λ e. omega arith) _ _ _
+at_x ps q = grind (arith, no_transform_shown, no_unicode_shown, shadowed, spelled, swapped)
 
 other_below : (c : ℕ) → is_other_singleton c ≡ true → c < 255
 other_below c o = grind (arith, nat_tests)
@@ -165,24 +185,30 @@ at_other c ps bs q o e =
     let b : eq_by_cmp nat_cmp code_u c ≡ false = untied code_u c (λ k. no_u c k o) in
     let s : Option (List Text) = Some (other_spelling (c, kept ps)) in
     rw (x, t, u, a, b) (
-    ap (cond (eq_by_cmp nat_cmp q code_t) _) (ap (cond (eq_by_cmp nat_cmp q code_u) _)
-    (swapped q 255 c (λ k. let m = other_below c o in omega arith) _ s _)
-    ∙ swapped q code_u c (λ k. no_u c (sym k) o) _ s _)
+    ap (cond (eq_by_cmp nat_cmp q code_t) _) (cc (
+      swapped q 255 c
+          (λ k. let m = other_below c o in omega arith) _ s _,
+      swapped q code_u c (λ k. no_u c (sym k) o) _ s _,
+    ))
     ∙ swapped q code_t c (λ k. no_t c (sym k) o) _ s _ ∙ ap (cond (eq_by_cmp nat_cmp q c) s) e
     )
 
 agree : (bs : List Block) → EndsAtX bs → AllByRecursion
     (λ b. (to_ascii_lowercase b.0 ≡ b.0) × (is_ascii_alphanumeric b.0 ≡ true)) bs → (q : ℕ) → Agree bs q
-agree [] x h q = (λ j. cond (eq_by_cmp nat_cmp q code_t) (Some (no_transform_shown j))
-    (cond (eq_by_cmp nat_cmp q code_u) (Some (no_unicode_shown j))
-    (cond (eq_by_cmp nat_cmp q 255) (Some (private_spelling_none j)) None)))
-agree (b ∷ bs) x h q = elim (kind_of b.0 h.0.1) [
-  | of_t k ↦ subst (λ c. Agree ((c, b.1) ∷ bs) q) (sym k) (at_t b.1 bs q (agree bs x.1 h.1 q))
-  | of_u k ↦ subst (λ c. Agree ((c, b.1) ∷ bs) q) (sym k) (at_u b.1 bs q (agree bs x.1 h.1 q))
-  | of_x k ↦ subst (λ l. Agree (b ∷ l) q) (sym (x.0 (ap (λ c. c == code_x) (h.0.0 ∙ k))))
-      (subst (λ c. Agree ((c, b.1) ∷ []) q) (sym k) (at_x b.1 q))
-  | another o ↦ at_other b.0 b.1 bs q o (agree bs x.1 h.1 q)
-]
+agree [] x h q = simp (no_transform_shown, no_unicode_shown, private_spelling_none)
+agree (b ∷ bs) x h q = grind (
+  arith,
+  kind_of,
+  of_t,
+  at_t,
+  of_u,
+  at_u,
+  of_x,
+  at_x,
+  another,
+  at_other,
+  agree bs x.1 h.1 q,
+)
 
 -- ---- its order is that of the text
 
@@ -192,11 +218,7 @@ IsOtherKey o = is_other_singleton o.0 ≡ true
 before_low : (os : List Block) → AllByRecursion IsOtherKey os →
     AllByRecursion (λ o. o.0 < code_t) (before_t os)
 before_low [] h = tt
-before_low (o ∷ os) h = cond_both (nat_le o.0 code_t) _ _ (AllByRecursion (λ o. o.0 < code_t))
-    (λ e. (less_t o.0 h.0 e, before_low os h.1)) (λ _. tt)
-  where
-    less_t : (c : ℕ) → is_other_singleton c ≡ true → nat_le c code_t ≡ true → c < code_t
-    less_t c o e = grind (arith, nat_tests)
+before_low (o ∷ os) h = grind (arith, cond_both, nat_tests, before_low os h.1)
 
 -- keys above `u` and below the rank of `x`
 abbrev IsBetween : Block → Type 0
@@ -228,12 +250,7 @@ after_high (o ∷ os) s h =
 
 before_after : (os : List Block) → before_t os ++ after_t os ≡ os
 before_after [] = refl
-before_after (o ∷ os) = elim (nat_le o.0 code_t) as
-    (λ b. cond b (o ∷ before_t os) [] ++ cond b (after_t os) (o ∷ os) ≡ o ∷ os) [
-      | true ↦
-          ap (λ l. o ∷ l) (before_after os)
-      | false ↦ refl
-    ]
+before_after (o ∷ os) = grind (arith, before_after os)
 
 -- the map of what is shown, by ranks
 shown_in_order : (es : List (ℕ × Extension)) (x : List Text)
@@ -257,68 +274,59 @@ shown_in_order es x h =
     let u : List Text = unicode_spelling (unicode_part (find nat_cmp code_u es)) in
     let last : List (ℕ × List Text) = (255, private_spelling x) ∷ [] in
     let low : AllByRecursion (λ e. e.0 < code_t) before =
-    all_mapped (λ (o : Block). o.0 < code_t) _ shown_other (λ o k. k) (before_t os) (before_low os keys) in
+    search (all_mapped, before_low) in
     let high : AllByRecursion (λ e. (code_u < e.0) × (e.0 < 255)) after =
     all_mapped IsBetween _ shown_other (λ o k. k) (after_t os)
     (after_high os (is_sorted-map_of nat_cmp nat_cmp_total (filter_map other_part es)) keys) in
     let others : map_of nat_cmp (map shown_other (filter_map other_part es)) ≡ before ++ after =
-    sym (map_of_carried nat_cmp nat_cmp nat_cmp-IsAntisymmetric nat_cmp-IsAntisymmetric (λ _. Unit {0})
-    (λ (o : Block). o.0) (λ o. other_spelling o) (λ e f _ _. refl) (filter_map other_part es)
-    (all_of _ (λ _. tt) (filter_map other_part es)))
-    ∙ ap (map shown_other) (sym (before_after os)) ∙ map-append shown_other (before_t os) (after_t os) in
-    let in_order : map_of nat_cmp (shown es x) ≡ before ++ (code_t, t) ∷ (code_u, u) ∷ (after ++ last) =
-    ap (λ l. put nat_cmp code_t t (put nat_cmp code_u u (put nat_cmp 255 (private_spelling x) l)))
-    (others ∙ sym (append-nil (before ++ after)))
-    ∙ ap (λ l. put nat_cmp code_t t (put nat_cmp code_u u l))
-    (put_between 255 (private_spelling x) (before ++ after) []
-    (all_append (λ e. e.0 < 255) before after (all_weaker _ _ (λ e k. omega arith) before low)
-    (all_weaker _ _ (λ e k. k.1) after high)) tt ∙ append_assoc before after last)
-    ∙ ap (put nat_cmp code_t t) (put_between code_u u before (after ++ last)
-    (all_weaker _ _ (λ e k. omega arith) before low)
-    (all_append (λ e. code_u < e.0) after last (all_weaker _ _ (λ e k. k.0) after high)
-    (omega arith, tt)))
-    ∙ put_between code_t t before ((code_u, u) ∷ (after ++ last)) low (
-      omega arith,
-      all_append (λ e. code_t < e.0) after last (all_weaker _ _ (λ e k. omega arith) after high)
-          (omega arith, tt),
+    cc (
+      map_of_carried nat_cmp nat_cmp nat_cmp-IsAntisymmetric nat_cmp-IsAntisymmetric (λ _. Unit {0})
+          (λ (o : Block). o.0) (λ o. other_spelling o) (λ e f _ _. refl) (filter_map other_part es)
+          (all_of _ (λ _. tt) (filter_map other_part es)),
+      before_after os,
+      map-append shown_other (before_t os) (after_t os),
     ) in
-    ap flat in_order ∙ flat-append before ((code_t, t) ∷ (code_u, u) ∷ (after ++ last))
-    ∙ (λ j. flat_map-map (λ (e : ℕ × List Text). e.1) shown_other (before_t os) j ++
-    (t ++ (u ++ (flat-append after last ∙ (λ i. flat_map-map (λ (e : ℕ × List Text). e.1) shown_other
-    (after_t os) i ++ append-nil (private_spelling x) i)) j)))
-    ∙ sym (spelling_of_parts (record {
-      unicode = unicode_part (find nat_cmp code_u es);
-      transform =
-          transform_part (find nat_cmp code_t es);
-      private = x;
-      others = os;
-    }))
+    let in_order : map_of nat_cmp (shown es x) ≡ before ++ (code_t, t) ∷ (code_u, u) ∷ (after ++ last) =
+    cc (
+      others,
+      append-nil (before ++ after),
+      put_between 255 (private_spelling x) (before ++ after) []
+          (all_append (λ e. e.0 < 255) before after (all_weaker _ _ (λ e k. omega arith) before low)
+          (all_weaker _ _ (λ e k. k.1) after high)) tt,
+      append_assoc before after last,
+      put_between code_u u before (after ++ last) (all_weaker _ _ (λ e k. omega arith) before low)
+          (all_append (λ e. code_u < e.0) after last (all_weaker _ _ (λ e k. k.0) after high)
+          (omega arith, tt)),
+      put_between code_t t before ((code_u, u) ∷ (after ++ last)) low (
+        omega arith,
+        all_append (λ e. code_t < e.0) after last
+            (all_weaker _ _ (λ e k. omega arith) after high) (omega arith, tt),
+      ),
+    ) in
+    grind (arith, flat, flat-append, flat_map-map, append-nil, spelling_of_parts)
 
 -- ---- the law
 
 others_at : (bs : List Block) → AllByRecursion (λ b. is_ascii_alphanumeric b.0 ≡ true) bs
     → AllByRecursion IsOtherKey (filter_map other_part (extensions_at bs))
 others_at [] h = tt
-others_at (b ∷ bs) h = elim (kind_of b.0 h.0) [
-  | of_t k ↦ subst (λ c. AllByRecursion IsOtherKey (filter_map other_part (extensions_at ((c, b.1) ∷ bs))))
-      (sym k) (others_at bs h.1)
-  | of_u k ↦ subst (λ c. AllByRecursion IsOtherKey (filter_map other_part (extensions_at ((c, b.1) ∷ bs))))
-      (sym k) (others_at bs h.1)
-  | of_x k ↦ subst (λ c. AllByRecursion IsOtherKey (filter_map other_part (extensions_at ((c, b.1) ∷ bs))))
-      (sym k) tt
-  | another o ↦
-      let t : (b.0 == code_t) ≡ false = ne_eqb _ _ (λ k. no_t b.0 k o) in
-      let u : (b.0 == code_u) ≡ false = ne_eqb _ _ (λ k. no_u b.0 k o) in
-      let x : (b.0 == code_x) ≡ false = ne_eqb _ _ (λ k. no_x b.0 k o) in
-      rw (x, t, u) (o, others_at bs h.1)
-]
+others_at (b ∷ bs) h = grind (
+  arith,
+  kind_of,
+  of_t,
+  of_u,
+  of_x,
+  another,
+  ne_eqb,
+  no_t,
+  no_u,
+  no_x,
+  others_at bs h.1,
+)
 
 ends_low : (bs : List Block) → EndsAtX bs → EndsAtX (by_singleton bs)
 ends_low [] e = tt
-ends_low (b ∷ bs) e = (
-  (λ k. ap by_singleton (e.0 (sym (ap (λ c. c == code_x) (lowercase-lowercase b.0)) ∙ k))),
-  ends_low bs e.1,
-)
+ends_low (b ∷ bs) e = grind (arith, lowercase-lowercase, ends_low bs e.1)
 
 -- an entry of which all parts are printed
 abbrev printed_entry : ℕ × List Part → ℕ × List Text
@@ -326,24 +334,7 @@ printed_entry e = (e.0, flat_map printed_part e.1)
 
 flat-printed : (es : List (ℕ × List Part)) → flat (map printed_entry es) ≡ flat_map printed_part (flat es)
 flat-printed [] = refl
-flat-printed (e ∷ es) = ap (λ l. flat_map printed_part e.1 ++ l) (flat-printed es)
-    ∙ sym (flat_map-append printed_part e.1 (flat es))
-
--- the parts of good blocks print what the blocks show
-blocks_printed : (T : LanguageLengths) (bs : List Block) → AllByRecursion (IsGood T) bs
-    → flat_map printed_part (blocks_parts bs) ≡ flat (map_of nat_cmp (shown_blocks (by_singleton bs)))
-blocks_printed T bs h =
-    sym (flat-printed (map_of nat_cmp (map ranked bs)))
-    ∙ ap flat (map_of_carried nat_cmp nat_cmp nat_cmp-IsAntisymmetric nat_cmp-IsAntisymmetric (λ _. Unit {0})
-    (λ (e : ℕ × List Part). e.0) (λ e. flat_map printed_part e.1) (λ e f _ _. refl) (map ranked bs)
-    (all_of _ (λ _. tt) (map ranked bs))
-    ∙ ap (map_of nat_cmp) (map-map printed_entry ranked bs
-    ∙ map-same (λ b. printed_entry (ranked b)) (λ
-    (b : Block). (rank (lower_singleton b), spelled (lower_singleton b) b.1)) bs
-    (all_weaker (IsGood T) _ (λ b g. ap (λ l. (rank (lower_singleton b), l))
-    (block_printed T b g.0 g.1)) bs h)
-    ∙ sym (map-map {C = ℕ × List Text} (λ b. (rank b.0, spelled b.0 b.1))
-    (λ (b : Block). (lower_singleton b, b.1)) bs)))
+flat-printed (e ∷ es) = simp (flat_map-append, flat, flat-printed es)
 
 -- what is printed of the parts of blocks that have no fault is what the blocks mean
 pub blocks_text : (ps : List Text) → first_fault languages [] (tail_blocks ps) ≡ None
@@ -377,4 +368,13 @@ blocks_text ps h =
     ((code_u, []) ∷ (255, []) ∷ [])))
     ∙ flat-last 255 ((shown_blocks low ++ (code_t, []) ∷ []) ++ (code_u, []) ∷ [])
     ∙ flat-last code_u (shown_blocks low ++ (code_t, []) ∷ []) ∙ flat-last code_t (shown_blocks low)
-    ∙ sym (blocks_printed languages bs good)
+    ∙ sym (sym (flat-printed (map_of nat_cmp (map ranked bs)))
+    ∙ ap flat (map_of_carried nat_cmp nat_cmp nat_cmp-IsAntisymmetric nat_cmp-IsAntisymmetric
+    (λ _. Unit {0}) (λ (e : ℕ × List Part). e.0) (λ e. flat_map printed_part e.1) (λ e f _ _. refl)
+    (map ranked bs) (all_of _ (λ _. tt) (map ranked bs))
+    ∙ ap (map_of nat_cmp) (map-map printed_entry ranked bs
+    ∙ map-same (λ b. printed_entry (ranked b)) (λ (b : Block).
+    (rank (lower_singleton b), spelled (lower_singleton b) b.1)) bs
+    (all_weaker (IsGood languages) _ (λ b g. ap (λ l. (rank (lower_singleton b), l))
+    (block_printed languages b g.0 g.1)) bs good) ∙ sym (map-map {C = ℕ × List Text}
+    (λ b. (rank b.0, spelled b.0 b.1)) (λ (b : Block). (lower_singleton b, b.1)) bs))))

@@ -1,30 +1,88 @@
 -- What is printed of spans, piece by piece.
-use Rattle.std.proofs.Common.{◌≡◌, ◌≢◌, ℕ, zero, suc, ◌+◌, ◌-◌, ◌<◌, ◌≤◌, Bool, true, false, true≢false, cond}
-use Rattle.std.proofs.Common.{not, List, [], ◌∷◌, ◌++◌, length, take, drop, map, flat_map, filter, refl, sym}
-use Rattle.std.proofs.Common.{ap, ◌∙◌, subst, arith, add-zero, append_assoc, append-nil, slice_index}
-use Rattle.std.proofs.Common.{slice_index_or, slice_set, add-one}
+use Rattle.std.proofs.Common.{
+  ◌≡◌,
+  ◌≢◌,
+  ℕ,
+  zero,
+  suc,
+  ◌+◌,
+  ◌-◌,
+  ◌<◌,
+  ◌≤◌,
+  Bool,
+  true,
+  false,
+  true≢false,
+  cond,
+  not,
+  List,
+  [],
+  ◌∷◌,
+  ◌++◌,
+  length,
+  take,
+  drop,
+  map,
+  flat_map,
+  filter,
+  refl,
+  sym,
+  ap,
+  ◌∙◌,
+  arith,
+  add-zero,
+  append_assoc,
+  append-nil,
+  slice_index,
+  slice_index_or,
+  slice_set,
+  add-one,
+}
 use Rattle.std.specs.Prelude.{codes, if◌then◌else◌}
 use Rattle.std.specs.Char.{to_ascii_lowercase}
 use Rattle.std.specs.List.{AllByRecursion, AllZip}
 use Rattle.std.proofs.Math.Seq.{take-suc}
 use Rattle.std.proofs.lemmas.Grind.{flat_map-append}
-use Rattle.std.proofs.lemmas.List.{drop-drop, drop-take, get_or-drop, get_or-take, map-append}
-use Rattle.std.proofs.lemmas.List.{take-append-drop, length-append, length-drop, length-take-le}
-use Rattle.std.proofs.lemmas.List.{take-take, take_more_set}
-use Rattle.iloc_spec_grammar.specs.Syntax.{Text, dashes, first_piece, is_other_singleton, is_true, kept}
-use Rattle.iloc_spec_grammar.specs.Syntax.{lower, pieces}
+use Rattle.std.proofs.lemmas.List.{
+  drop-drop,
+  drop-take,
+  get_or-drop,
+  get_or-take,
+  map-append,
+  take-append-drop,
+  length-append,
+  length-drop,
+  length-take-le,
+  take-take,
+  take_more_set,
+}
+use Rattle.iloc_spec_grammar.specs.Syntax.{
+  Text,
+  dashes,
+  first_piece,
+  is_other_singleton,
+  is_true,
+  kept,
+  lower,
+  pieces,
+}
 use Rattle.iloc_spec_grammar.specs.Values.{spelled_value}
 use Rattle.iloc_spec_grammar.proofs.PiecesLaws.{at_pieces, pieces-join}
 use Rattle.iloc_spec_grammar.proofs.PartTexts.{join-dashes}
 use Rattle.iloc_spec_grammar.proofs.WordsLaws.{length-lower}
-use Rattle.iloc_pieces.specs.Cursor.{IsEnd, IsNextPiece, IsShortPiece, piece_left, pieces_left}
-use Rattle.iloc_pieces.specs.Cursor.{bytes_left}
-use Rattle.iloc_outline.specs.Printing.{bytes_from, edited_text, is_kept, kept_pieces, printed_role}
-use Rattle.iloc_outline.specs.Printing.{span_text}
+use Rattle.iloc_pieces.specs.Cursor.{IsEnd, IsNextPiece, IsShortPiece, piece_left, pieces_left, bytes_left}
+use Rattle.iloc_outline.specs.Printing.{
+  bytes_from,
+  edited_text,
+  is_kept,
+  kept_pieces,
+  printed_role,
+  span_text,
+}
 use Rattle.iloc_spec_grammar.specs.Reading.{rest_of}
 use Rattle.iloc_outline.specs.Outlines.{Gives, parts_text}
 use Rattle.iloc_outline.specs.Spans.{AreShort, IsSpan}
-use Rattle.iloc_outline.specs.Identifier.{front_text, raised}
+use Rattle.iloc_outline.specs.Identifier.{front_text}
 use Rattle.iloc_outline.specs.declared.outline.Outline.{Outline}
 use Rattle.iloc_spans.specs.declared.spans.Spans.{Spans}
 use Rattle.iloc_spans.specs.declared.span.Span.{Span}
@@ -51,22 +109,16 @@ module _ (l : Cursor) (short : IsShortPiece (piece_left l)) where
       ∙ ap (λ n. take n (bytes_left l)) (length_piece l short) ∙ begins (bytes_left l)
 
   pub piece_first : l.piece_length ≢ 0 → slice_index (piece_left l) 0 ≡ slice_index l.window.now l.at
-  piece_first some =
-      ap (λ p. slice_index p 0) (sym piece_bytes)
-      ∙ get_or-take l.piece_length (drop l.at l.window.now) 0 0 (omega arith)
-      ∙ get_or-drop l.at l.window.now 0 0 ∙ ap (slice_index l.window.now) (add-zero l.at)
+  piece_first some = grind (arith, piece_bytes, get_or-take, get_or-drop, add-zero)
 
   pub piece_none : l.piece_length ≡ 0 → slice_index (piece_left l) 0 ≡ 0
-  piece_none none = ap (λ p. slice_index p 0) (sym piece_bytes
-      ∙ ap (λ n. take n (drop l.at l.window.now)) none)
+  piece_none none = grind (arith, piece_bytes)
 
 -- a hyphen and the piece are put behind what was there
 pub piece_put : (to news : Text) (start n : ℕ) (p : Text) → start < length to → take (start + 1 + n) news
     ≡ take (start + 1) (slice_set to start 45) ++ lower p
     → take (start + 1 + n) news ≡ take start to ++ 45 ∷ lower p
-piece_put to news start n p l e =
-    e ∙ ap (λ t. t ++ lower p) (take_more_set to start 45 l)
-    ∙ append_assoc (take start to) (45 ∷ []) (lower p)
+piece_put to news start n p l e = grind (arith, take_more_set, append_assoc)
 
 -- ---- pieces that are kept
 
@@ -74,18 +126,16 @@ pub pieces_behind : (t : Text) → pieces t ≡ first_piece (pieces t) ∷ rest_
 pieces_behind t = at_pieces (λ ps. ps ≡ first_piece ps ∷ rest_of ps) (λ p ps. refl) t
 
 pub first_short : (t : Text) → AllByRecursion IsShortPiece (pieces t) → IsShortPiece (first_piece (pieces t))
-first_short t =
-    at_pieces (λ ps. AllByRecursion IsShortPiece ps → IsShortPiece (first_piece ps)) (λ p ps h. h.0) t
+first_short t = grind (arith, at_pieces)
 
 pub next_short : (l m : Cursor) → IsNextPiece l m → AllByRecursion IsShortPiece (pieces_left l)
     → AllByRecursion IsShortPiece (pieces_left m)
-next_short l m next h = (subst (AllByRecursion IsShortPiece) next.pieces h).1
+next_short l m next h = (rw next.pieces at h).1
 
 -- a piece that is kept, and the others
 kept_more : (r : Role) (p : Text) (ps : List Text) → is_kept r p ≡ true → dashes (kept_pieces r (p ∷ ps))
     ≡ (45 ∷ lower p) ++ dashes (kept_pieces r ps)
-kept_more r p ps e = ap (λ b. dashes (map lower (cond b (p ∷ filter (is_kept r) ps) (filter (is_kept r) ps))))
-    e
+kept_more r p ps e = grind arith
 
 module _ (r : Role) (l m : Cursor) (next : IsNextPiece l m) (kept : is_kept r (piece_left m) ≡ true) where
   pub kept_next : dashes (kept_pieces r (rest_of (pieces_left l)))
@@ -114,11 +164,7 @@ module _ (r : Role) (l m : Cursor) (next : IsNextPiece l m) (kept : is_kept r (p
 
     pub kept_put : (news : Text) (more : ℕ) → take more news ≡ take end to ++ 45 ∷ lower (piece_left m)
         → take more news ++ dashes (kept_pieces r (rest_of (pieces_left m))) ≡ F ++ T
-    kept_put news more e =
-        ap (λ t. t ++ dashes (kept_pieces r (rest_of (pieces_left m)))) e
-        ∙ append_assoc (take end to) (45 ∷ lower (piece_left m))
-        (dashes (kept_pieces r (rest_of (pieces_left m))))
-        ∙ ap (λ t. take end to ++ t) (sym kept_next) ∙ all
+    kept_put news more e = grind (arith, append_assoc, kept_next)
 
 -- nothing is left behind the last piece
 module _ (r : Role) (l : Cursor) (end : IsEnd l) (F T to : Text) (n : ℕ)
@@ -141,14 +187,7 @@ kept_of r p = kept_pieces (printed_role r (first_piece (pieces p))) (rest_of (pi
 filter_lowered : (ps : List Text) → filter (λ w. not (is_true w)) (map lower ps)
     ≡ map lower (filter (λ p. not (is_true (lower p))) ps)
 filter_lowered [] = refl
-filter_lowered (p ∷ ps) =
-    elim (is_true (lower p)) as (λ b. cond (not b) (lower p ∷ filter (λ w. not (is_true w)) (map lower ps))
-    (filter (λ w. not (is_true w)) (map lower ps))
-    ≡ map lower (cond (not b) (p ∷ filter (λ p. not (is_true (lower p))) ps)
-    (filter (λ p. not (is_true (lower p))) ps))) [
-      | true ↦ filter_lowered ps
-      | false ↦ ap (λ l. lower p ∷ l) (filter_lowered ps)
-    ]
+filter_lowered (p ∷ ps) = grind (arith, filter_lowered ps)
 
 filter_all : (ps : List Text) → filter (λ (p : Text). true) ps ≡ ps
 filter_all [] = refl
@@ -156,8 +195,6 @@ filter_all (p ∷ ps) = ap (λ l. p ∷ l) (filter_all ps)
 
 printed_is : (r : Role) (p : Text) (ps : List Text) → printed_by r (p ∷ ps)
     ≡ lower p ∷ closing (printed_role r p) (kept_pieces (printed_role r p) ps)
-printed_is roles.Variant p ps = ap (λ l. lower p ∷ map lower l) (sym (filter_all ps))
-printed_is roles.Attribute p ps = ap (λ l. lower p ∷ map lower l) (sym (filter_all ps))
 printed_is roles.Keyword p ps = ap (λ l. lower p ∷ l) (filter_lowered ps)
 printed_is roles.Field p ps = ap (λ l. lower p ∷ spelled_value l) (filter_lowered ps)
 printed_is roles.Singleton p ps =
@@ -168,25 +205,21 @@ printed_is roles.Singleton p ps =
       | true ↦ refl
       | false ↦ ap (λ l. lower p ∷ map lower l) (sym (filter_all ps))
     ]
+printed_is _ p ps = ap (λ l. lower p ∷ map lower l) (sym (filter_all ps))
 
 pub edited_is : (r : Role) (p : Text)
     → edited_text r p ≡ (45 ∷ lower (first_piece (pieces p))) ++ dashes
     (closing (printed_role r (first_piece (pieces p))) (kept_of r p))
-edited_is r p = ap (λ ps. dashes (printed_by r ps)) (pieces_behind p)
-    ∙ ap dashes (printed_is r (first_piece (pieces p)) (rest_of (pieces p)))
+edited_is r p = grind (arith, pieces_behind, printed_is)
 
 -- no byte is printed for no pieces only
 no_dashes : (ps : List Text) → length (dashes ps) ≡ 0 → ps ≡ []
 no_dashes [] e = refl
-no_dashes (p ∷ ps) e = absurd (omega (arith, length-append (45 ∷ p) (dashes ps)))
+no_dashes (p ∷ ps) e = search length-append
 
 closing_some : (r : Role) (ps : List Text) → (r ≡ roles.Field → length (dashes ps) ≢ 0) → closing r ps ≡ ps
-closing_some roles.Variant ps h = refl
-closing_some roles.Singleton ps h = refl
-closing_some roles.Attribute ps h = refl
-closing_some roles.Keyword ps h = refl
 closing_some roles.Field [] h = absurd (h refl refl)
-closing_some roles.Field (p ∷ ps) h = refl
+closing_some _ _ h = refl
 
 closing_longer : (r : Role) (ps : List Text) → length (dashes ps) ≤ length (dashes (closing r ps))
 closing_longer roles.Variant ps = omega arith
@@ -214,30 +247,25 @@ module _ (r : Role) (p : Text) where
   pub edited_kept : (printed_role r (first_piece (pieces p)) ≡ roles.Field
       → length (dashes (kept_of r p)) ≢ 0)
       → edited_text r p ≡ (45 ∷ lower (first_piece (pieces p))) ++ dashes (kept_of r p)
-  edited_kept h = edited_is r p ∙ ap (λ ps. (45 ∷ lower (first_piece (pieces p))) ++ dashes ps)
-      (closing_some (printed_role r (first_piece (pieces p))) (kept_of r p) h)
+  edited_kept h = simp (edited_is, closing_some)
 
   -- or `true` is behind the first
   pub edited_true : printed_role r (first_piece (pieces p)) ≡ roles.Field → length (dashes (kept_of r p)) ≡ 0
       → edited_text r p ≡ (45 ∷ lower (first_piece (pieces p))) ++ codes "-true"
-  edited_true e h = edited_is r p
-      ∙ (λ j. (45 ∷ lower (first_piece (pieces p))) ++ dashes (closing (e j) (no_dashes (kept_of r p) h j)))
+  edited_true e h = grind (arith, edited_is, no_dashes)
 
 -- whether it is a field, as the code asks it
 pub field_told : (r : Role) → sameb the_type r roles.Field ≡ true → r ≡ roles.Field
-field_told roles.Variant h = absurd (true≢false (sym h))
-field_told roles.Singleton h = absurd (true≢false (sym h))
-field_told roles.Attribute h = absurd (true≢false (sym h))
-field_told roles.Keyword h = absurd (true≢false (sym h))
 field_told roles.Field h = refl
+field_told _ h = absurd (true≢false (sym h))
 
 pub no_field_told : (r : Role) → sameb the_type r roles.Field ≡ false → r ≢ roles.Field
-no_field_told r h e = true≢false (sym (ap (λ q. sameb the_type q roles.Field) e) ∙ h)
+no_field_told r h e = grind (arith, true≢false)
 
 -- the bytes behind the hyphen of a span, as the cursor has them
 pub bytes_here : (w rest : Text) (from end : ℕ) → end ≤ length w → rest
     ≡ take (end - from) (take (length w - from) (drop from w)) → rest ≡ bytes_from w from end
-bytes_here w rest from end l e = e ∙ take-take (end - from) (length w - from) (drop from w) (omega arith)
+bytes_here w rest from end l e = grind (arith, take-take)
 
 -- what was written is what is printed of the part
 module _ (r role : Role) (rest p : Text) (is : rest ≡ p) (e : role
@@ -261,40 +289,26 @@ module _ (r role : Role) (rest p : Text) (is : rest ≡ p) (e : role
   pub written_true : role ≡ roles.Field → length (dashes (kept_pieces role (rest_of (pieces rest)))) ≡ 0
       → ((F ++ 45 ∷ lower (first_piece (pieces rest))) ++ dashes
       (kept_pieces role (rest_of (pieces rest)))) ++ codes "-true" ≡ F ++ edited_text r p
-  written_true f none =
-      let K = dashes (kept_pieces role (rest_of (pieces rest))) in
-      let P = 45 ∷ lower (first_piece (pieces rest)) in
-      (λ j. ((F ++ P) ++ dashes (no_dashes (kept_pieces role (rest_of (pieces rest))) none j)) ++ codes
-      "-true") ∙ ap (λ t. t ++ codes "-true") (append-nil (F ++ P)) ∙ append_assoc F P (codes "-true")
-      ∙ ap (λ t. F ++ ((45 ∷ lower (first_piece (pieces t))) ++ codes "-true")) is
-      ∙ ap (λ t. F ++ t) (sym (edited_true r p (sym role_here ∙ f)
-      (ap (λ ps. length (dashes ps)) (sym kept_here) ∙ none)))
+  written_true f none = grind (arith, no_dashes, append-nil, append_assoc, edited_true, role_here, kept_here)
 
   pub written_kept : (role ≡ roles.Field → length (dashes (kept_pieces role (rest_of (pieces rest)))) ≢ 0)
       → (F ++ 45 ∷ lower (first_piece (pieces rest))) ++ dashes (kept_pieces role (rest_of (pieces rest)))
       ≡ F ++ edited_text r p
-  written_kept some =
-      append_assoc F (45 ∷ lower (first_piece (pieces rest)))
-      (dashes (kept_pieces role (rest_of (pieces rest))))
-      ∙ (λ j. F ++ ((45 ∷ lower (first_piece (pieces (is j)))) ++ dashes (kept_here j)))
-      ∙ ap (λ t. F ++ t) (sym (edited_kept r p
-      (λ f none. some (role_here ∙ f) (ap (λ ps. length (dashes ps)) kept_here ∙ none))))
+  written_kept some = grind (arith, append_assoc, kept_here, edited_kept, role_here)
 
 -- ---- all spans
 
 lower_dashes : (ps : List Text) → dashes (map lower ps) ≡ lower (dashes ps)
 unfolding lower
 lower_dashes [] = refl
-lower_dashes (p ∷ ps) = ap (λ t. (45 ∷ map to_ascii_lowercase p) ++ t) (lower_dashes ps)
-    ∙ sym (map-append to_ascii_lowercase (45 ∷ p) (dashes ps))
+lower_dashes (p ∷ ps) = simp (map-append, lower_dashes ps)
 
 -- the bytes behind the first of those from one place to another
 bytes_after : (t : Text) (start end : ℕ) → start < end → drop 1 (bytes_from t start end)
     ≡ bytes_from t (start + 1) end
 bytes_after t start end l =
     let n : end - start ≡ 1 + (end - (start + 1)) = omega arith in
-    ap (λ k. drop 1 (take k (drop start t))) n ∙ drop-take 1 (end - (start + 1)) (drop start t)
-    ∙ ap (take (end - (start + 1))) (drop-drop 1 start t)
+    cc (n, drop-take 1 (end - (start + 1)) (drop start t), drop-drop 1 start t)
 
 module _ (t : Text) (s : Span) (p : Part) (is : IsSpan t s p) where
   pub span_long : length (bytes_from t s.start s.end) ≡ s.end - s.start
@@ -318,7 +332,7 @@ module _ (t : Text) (s : Span) (p : Part) (is : IsSpan t s p) where
       cut (q ∷ qs) h = ap pieces (sym (join-dashes q qs)) ∙ pieces-join q qs h.hyphen_free
 
   pub span_short : s.edited ≡ true → AllByRecursion IsShortPiece (pieces (bytes_from t (s.start + 1) s.end))
-  span_short e = subst (AllByRecursion IsShortPiece) (sym (span_pieces e)) (is.short e).short
+  span_short e = grind (arith, span_pieces)
 
   -- what is printed of the span is what is printed of the part
   pub span_is : span_text t s ≡ dashes (printed_part p)
@@ -326,13 +340,9 @@ module _ (t : Text) (s : Span) (p : Part) (is : IsSpan t s p) where
     where
       at : (b : Bool) → s.edited ≡ b → span_text t s ≡ dashes (printed_part p)
       at true e =
-          ap (λ b. cond b (edited_text s.role (bytes_from t (s.start + 1) s.end))
-          (lower (bytes_from t s.start s.end))) e
-          ∙ (λ j. dashes (printed_by (is.role j) (span_pieces e j)))
+          grind (arith, span_pieces)
       at false e =
-          ap (λ b. cond b (edited_text s.role (bytes_from t (s.start + 1) s.end))
-          (lower (bytes_from t s.start s.end))) e
-          ∙ ap lower is.spanned.bytes ∙ sym (lower_dashes p.pieces) ∙ ap dashes (sym (is.same e))
+          grind (arith, lower_dashes)
 
 pub spans_are : (t : Text) (ss : List Span) (ps : List Part) → AllZip (IsSpan t) ss ps
     → flat_map (span_text t) ss ≡ parts_text ps
@@ -361,44 +371,32 @@ module _ {X : Type 0} (f : X → Text) (xs : List X) (i : ℕ) (d : X) (l : i < 
       (flat_map f xs)
   flat_room =
       let whole : flat_map f (take (i + 1) xs) ++ flat_map f (drop (i + 1) xs) ≡ flat_map f xs =
-      sym (flat_map-append f (take (i + 1) xs) (drop (i + 1) xs))
-      ∙ ap (flat_map f) (take-append-drop (i + 1) xs) in
-      omega (
-        arith,
-        ap length whole,
-        ap length flat_more,
-        length-append (flat_map f (take (i + 1) xs))
-            (flat_map f (drop (i + 1) xs)),
-        length-append (flat_map f (take i xs)) (f (slice_index_or xs i d)),
-      )
-
--- a span of the first bytes is one of all
-pub span_wider : (w : Text) (len : ℕ) → len ≤ length w → (s : Span) (p : Part) → IsSpan (take len w) s p
-    → IsSpan w s p
-span_wider w len l s p is =
-    let inside : s.end ≤ len = omega (arith, is.spanned.inside, length-take-le len w l) in
-    let n : len ≡ s.start + (len - s.start) = omega (arith, is.spanned.ascends) in
-    record {
-      role = is.role;
-      word = is.word;
-      same = is.same;
-      short = is.short;
-      spanned = record {
-        ascends = is.spanned.ascends;
-        inside = omega (arith, is.spanned.inside, length-take-le len w l);
-        bytes = sym (take-take (s.end - s.start) (len - s.start) (drop s.start w) (omega arith))
-            ∙ ap (take (s.end - s.start)) (sym (drop-take s.start (len - s.start) w)
-            ∙ ap (λ k. drop s.start (take k w)) (sym n))
-            ∙ is.spanned.bytes;
-      };
-    }
+      simp (← flat_map-append, take-append-drop) in
+      grind (arith, flat_more, length-append)
 
 pub spell_wider : (w : Text) (len : ℕ) → len ≤ length w → (ss : List Span) (ps : List Part)
     → AllZip (IsSpan (take len w)) ss ps → AllZip (IsSpan w) ss ps
 spell_wider w len l [] [] h = tt
 spell_wider w len l [] (p ∷ ps) h = absurd h
 spell_wider w len l (s ∷ ss) [] h = absurd h
-spell_wider w len l (s ∷ ss) (p ∷ ps) h = (span_wider w len l s p h.0, spell_wider w len l ss ps h.1)
+spell_wider w len l (s ∷ ss) (p ∷ ps) h = (
+  (let inside : s.end ≤ len = omega
+      (arith, h.0.spanned.inside, length-take-le len w l) in let n : len ≡ s.start + (len - s.start) = omega
+      (arith, h.0.spanned.ascends) in record {
+        role = h.0.role;
+        word = h.0.word;
+        same = h.0.same;
+        short = h.0.short;
+        spanned = record {
+          ascends = h.0.spanned.ascends;
+          inside = omega (arith, h.0.spanned.inside, length-take-le len w l);
+          bytes = sym (take-take (s.end - s.start) (len - s.start) (drop s.start w) (omega arith))
+              ∙ ap (take (s.end - s.start)) (sym (drop-take s.start (len - s.start) w)
+              ∙ ap (λ k. drop s.start (take k w)) (sym n)) ∙ h.0.spanned.bytes;
+        };
+      }),
+  spell_wider w len l ss ps h.1,
+)
 
 -- there is room for one span more
 pub span_room : (w : Text) (ss : List Span) (ps : List Part) → AllZip (IsSpan w) ss ps
@@ -418,8 +416,7 @@ span_room w ss ps h F to i d end there inside e =
 -- ---- the front
 
 pub length-front_text : (script region : ℕ) (t : Text) → length (front_text script region t) ≡ length t
-length-front_text script region t =
-    length-raised 2 region (raised 1 script (lower t)) ∙ length-raised 1 script (lower t) ∙ length-lower t
+length-front_text script region t = simp (length-raised, length-lower)
 
 -- the text of an outline of the first bytes
 module _ (w : Text) (len : ℕ) (l : len ≤ length w) (o : Outline) (spans : Spans) (normal : Text)

@@ -9,14 +9,8 @@ use Rattle.iloc_spans.specs.declared.span.Role.TheVariants as roles
 -- a word of a role, and a key of one
 pub short_kind : (r : Role) (p : Text) → IsWord (role_kind r) p → IsShortPiece p
 short_kind roles.Variant p h = short_variant p h
-short_kind roles.Singleton p h = short_attribute p h
-short_kind roles.Attribute p h = short_attribute p h
-short_kind roles.Keyword p h = short_attribute p h
-short_kind roles.Field p h = short_attribute p h
+short_kind _ p h = short_attribute p h
 
 pub short_key_kind : (r : Role) (p : Text) → IsWord (role_key r) p → IsShortPiece p
-short_key_kind roles.Variant p h = short_key p h
-short_key_kind roles.Singleton p h = short_key p h
-short_key_kind roles.Attribute p h = short_key p h
-short_key_kind roles.Keyword p h = short_key p h
 short_key_kind roles.Field p h = short_field_key p h
+short_key_kind _ p h = short_key p h

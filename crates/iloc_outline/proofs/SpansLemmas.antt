@@ -1,18 +1,32 @@
 -- Spans and the parts that they spell.
-use Rattle.std.proofs.Common.{◌≡◌, ◌≢◌, ℕ, ◌==◌, ◌||◌, true, false}
-use Rattle.std.proofs.Common.{true≢false, List, [], ◌∷◌, ◌++◌, length, map}
-use Rattle.std.proofs.Common.{take, drop, refl, sym, ap, subst, append_assoc, arith}
+use Rattle.std.proofs.Common.{
+  ◌≡◌,
+  ℕ,
+  ◌==◌,
+  ◌||◌,
+  true,
+  false,
+  true≢false,
+  List,
+  [],
+  ◌∷◌,
+  ◌++◌,
+  length,
+  map,
+  take,
+  drop,
+  refl,
+  sym,
+  append_assoc,
+  arith,
+}
 use Rattle.std.specs.Char.{is_ascii_alphanumeric, to_ascii_lowercase}
 use Rattle.std.specs.Int.{is_in_range}
 use Rattle.std.specs.List.{AllByRecursion, AllZip}
 use Rattle.std.specs.Ordering.{nat_cmp}
-use Rattle.std.specs.declared.cmp.Ordering.{Ordering}
-use Rattle.std.specs.declared.cmp.Ordering.TheVariants.{Less, Equal, Greater}
 use Rattle.std.specs.FinMap.{put}
-use Rattle.std.specs.FinMap.Entries.{by_order}
 use Rattle.std.proofs.lemmas.Slice.Zip.{AllZip-long}
-use Rattle.iloc_spec_grammar.specs.Syntax.{Text, Field, Kind, Attribute, UnicodeKey, TransformKey, IsWord}
-use Rattle.iloc_spec_grammar.specs.Syntax.{Bounds, IsHyphenFree}
+use Rattle.iloc_spec_grammar.specs.Syntax.{Text, Field, Kind, IsWord, Bounds, IsHyphenFree}
 use Rattle.iloc_spec_grammar.specs.Meaning.{map_of}
 use Rattle.iloc_spec_grammar.proofs.ReadBack.{word_hyphen_free}
 use Rattle.std.proofs.lemmas.Bool.Decides.{nat_tests}
@@ -38,27 +52,11 @@ not_edited e = absurd (true≢false (sym e))
 pub words_short : (k : Kind) → Bounds 8 k → (ws : List Text) → AllByRecursion (IsWord k) ws →
     AllByRecursion IsHyphenFree ws × AllByRecursion IsShortPiece ws
 words_short k ends [] h = (tt, tt)
-words_short k ends (w ∷ ws) h = let rest = words_short k ends ws h.1 in
-    ((word_hyphen_free k w h.0, rest.0), (short_word k ends w h.0, rest.1))
+words_short k ends (w ∷ ws) h = search (word_hyphen_free, short_word, words_short k ends ws h.1)
 
 -- a key and its values
 pub field_short : (r : Role) (f : Field) → IsFieldOfRole r f → AreShort (f.0 ∷ f.1)
-field_short r f h = by r h
-  where
-    key : (k : Kind) → Bounds 8 k → IsWord k f.0 → AllByRecursion (IsWord Attribute) f.1 →
-        AreShort (f.0 ∷ f.1)
-    key k ends a b = record {
-      some = λ e. absurd (cc);
-      hyphen_free = (word_hyphen_free k f.0 a, (words_short Attribute tt f.1 b).0);
-      short = (short_word k ends f.0 a, (words_short Attribute tt f.1 b).1);
-    }
-
-    by : (r : Role) → IsFieldOfRole r f → AreShort (f.0 ∷ f.1)
-    by roles.Field h = key TransformKey tt h.0 h.1
-    by roles.Variant h = key UnicodeKey tt h.0 h.1
-    by roles.Singleton h = key UnicodeKey tt h.0 h.1
-    by roles.Attribute h = key UnicodeKey tt h.0 h.1
-    by roles.Keyword h = key UnicodeKey tt h.0 h.1
+field_short r f h = grind (arith, word_hyphen_free, words_short, short_word)
 
 -- a singleton and pieces of two to eight bytes
 pub other_short : (c : ℕ) (ps : List Text) → is_ascii_alphanumeric (to_ascii_lowercase c) ≡ true →
@@ -97,15 +95,13 @@ spell_length t spans ps h = AllZip-long (IsSpan t) (held_spans spans) ps h
 -- what is added twice is added behind one another
 pub adds_then : (t : Text) (a b : List Part) (x y z : Spans) → AddsParts t a x y → AddsParts t b y z →
     AddsParts t (a ++ b) x z
-adds_then t a b x y z f g ps h = subst (Spell t z) (append_assoc ps a b) (g (ps ++ a) (f ps h))
+adds_then t a b x y z f g ps h = grind (arith, append_assoc)
 
 -- a span was put behind the others
 pub spell_put : (t : Text) (old new : Spans) (ps : List Part) (s : Span) (p : Part) → Spell t old ps →
     IsSpan t s p
     → held_spans new ≡ held_spans old ++ s ∷ [] → Spell t new (ps ++ (p ∷ []))
-spell_put t old new ps s p h is e =
-    subst (λ (ss : List Span). AllZip (IsSpan t) ss (ps ++ (p ∷ []))) (sym e)
-    (zip_append (IsSpan t) (held_spans old) (s ∷ []) ps (p ∷ []) h (is, tt))
+spell_put t old new ps s p h is e = grind (arith, zip_append)
 
 -- the first partners of a list whose front is known, and the others
 pub zip_take : {A B : Type 0} (R : A → B → Type 0) (xs : List A) (ys zs : List B) → AllZip R xs (ys ++ zs) →
@@ -129,18 +125,7 @@ module _ {A B : Type 0} (R : A → B → Type 0) (number : A → ℕ) (word : B 
   zip_put k x y r [] [] h = ((refl, r), tt)
   zip_put k x y r [] (f ∷ fs) h = absurd h
   zip_put k x y r (e ∷ es) [] h = absurd h
-  zip_put k x y r (e ∷ es) (f ∷ fs) h =
-      let rest = zip_put k x y r es fs h.1 in
-      subst (λ (o : Ordering). AllZip (λ e f. (e.0 ≡ f.0) × R e.1 f.1) (put nat_cmp k x (e ∷ es))
-      (by_order o ((k, y) ∷ f ∷ fs) ((f.0, y) ∷ fs) (f ∷ put nat_cmp k y fs)))
-      (ap (nat_cmp k) h.0.0)
-      (elim (nat_cmp k e.0) as (λ o. AllZip (λ e f. (e.0 ≡ f.0) × R e.1 f.1)
-      (by_order o ((k, x) ∷ e ∷ es) ((e.0, x) ∷ es) (e ∷ put nat_cmp k x es))
-      (by_order o ((k, y) ∷ f ∷ fs) ((f.0, y) ∷ fs) (f ∷ put nat_cmp k y fs))) [
-        | Less ↦ ((refl, r), h)
-        | Equal ↦ ((h.0.0, r), h.1)
-        | Greater ↦ (h.0, rest)
-      ])
+  zip_put k x y r (e ∷ es) (f ∷ fs) h = grind (arith, zip_put k x y r es fs h.1)
 
   zip_map_of : (xs : List A) (ys : List B) → AllZip R xs ys
       → AllZip (λ e f. (e.0 ≡ f.0) × R e.1 f.1) (map_of nat_cmp (numbered number xs))
@@ -148,10 +133,7 @@ module _ {A B : Type 0} (R : A → B → Type 0) (number : A → ℕ) (word : B 
   zip_map_of [] [] h = tt
   zip_map_of [] (y ∷ ys) h = absurd h
   zip_map_of (x ∷ xs) [] h = absurd h
-  zip_map_of (x ∷ xs) (y ∷ ys) h =
-      subst (λ (k : ℕ). AllZip (λ e f. (e.0 ≡ f.0) × R e.1 f.1) (map_of nat_cmp (numbered number (x ∷ xs)))
-      (put nat_cmp k y (map_of nat_cmp (numbered word ys))))
-      (same x y h.0) (zip_put (number x) x y h.0 _ _ (zip_map_of xs ys h.1))
+  zip_map_of (x ∷ xs) (y ∷ ys) h = grind (arith, numbered, zip_put, zip_map_of xs ys h.1)
 
   zip_values : (es : List (ℕ × A)) (fs : List (ℕ × B)) → AllZip (λ e f. (e.0 ≡ f.0) × R e.1 f.1) es fs →
       AllZip R (map (λ (_, x). x) es) (map (λ (_, y). y) fs)

@@ -1,26 +1,97 @@
 -- Which pieces may follow `t`: an identifier and fields, one of both at least.
-use Rattle.std.proofs.Common.{◌≡◌, ◌≢◌, ◌⊎◌, inl, inr, ℕ, ◌<◌, Bool, true, false, cond, ◌||◌, List, [], ◌∷◌}
-use Rattle.std.proofs.Common.{◌++◌, length, map, refl, sym, ap, ◌∙◌, subst, arith, Option, Some, None, IfSome}
-use Rattle.std.proofs.Common.{option_to_list, append_assoc, true≢false}
+use Rattle.std.proofs.Common.{
+  ◌≡◌,
+  ◌≢◌,
+  ◌⊎◌,
+  inl,
+  inr,
+  ℕ,
+  ◌<◌,
+  Bool,
+  true,
+  false,
+  List,
+  [],
+  ◌∷◌,
+  ◌++◌,
+  length,
+  map,
+  refl,
+  sym,
+  ap,
+  ◌∙◌,
+  arith,
+  Option,
+  Some,
+  None,
+  IfSome,
+  append_assoc,
+  true≢false,
+}
 use Rattle.std.specs.List.{AllByRecursion}
 use Rattle.std.specs.Char.{to_ascii_lowercase}
 use Rattle.std.proofs.lemmas.Bool.{and_parts, and_from, ne_eqb}
 use Rattle.std.proofs.lemmas.List.{append_cancel_left}
-use Rattle.iloc_spec_grammar.specs.Syntax.{Text, code_t, Language, Variant, TransformKey}
-use Rattle.iloc_spec_grammar.specs.Syntax.{Attribute, is_word, IsWord, IsField, Fields, SpelledIdentifier}
-use Rattle.iloc_spec_grammar.specs.Syntax.{SpelledTransform, HasWords, IsIdentifier, AllDifferent}
-use Rattle.iloc_spec_grammar.specs.Syntax.{fields_pieces, identifier_pieces, optional_pieces}
-use Rattle.iloc_spec_grammar.specs.Syntax.{transform_pieces, languages, first_piece, front, lower, word_cmp}
-use Rattle.iloc_spec_grammar.specs.Tree.{Extension, unicode, transform, other, IsBlock, IsExtension}
-use Rattle.iloc_spec_grammar.specs.Tree.{IsTransformBlock, extension_pieces}
-use Rattle.iloc_spec_grammar.specs.Reading.{transform_of, front_of, after_front, after_region, from_block}
-use Rattle.iloc_spec_grammar.specs.Reading.{before_key, fields_from, passing}
+use Rattle.iloc_spec_grammar.specs.Syntax.{
+  Text,
+  code_t,
+  Language,
+  Variant,
+  TransformKey,
+  Attribute,
+  is_word,
+  IsWord,
+  IsField,
+  Fields,
+  SpelledIdentifier,
+  SpelledTransform,
+  HasWords,
+  IsIdentifier,
+  AllDifferent,
+  fields_pieces,
+  identifier_pieces,
+  optional_pieces,
+  transform_pieces,
+  languages,
+  first_piece,
+  front,
+  lower,
+  word_cmp,
+}
+use Rattle.iloc_spec_grammar.specs.Tree.{transform, IsBlock, IsTransformBlock}
+use Rattle.iloc_spec_grammar.specs.Reading.{
+  transform_of,
+  front_of,
+  after_front,
+  after_region,
+  from_block,
+  before_key,
+  fields_from,
+  passing,
+}
 use Rattle.iloc_spec_grammar.specs.Computing.{is_block, repeats_variant}
-use Rattle.iloc_spec_grammar.proofs.Readings.{IsLong, IsNoKey, KeysPass, transform_of-pieces, language_no_key}
-use Rattle.iloc_spec_grammar.proofs.Readings.{long_after_language, fields_pass, fields_read, fields_past}
-use Rattle.iloc_spec_grammar.proofs.ReadingLaws.{EndsWords, front_of-append, after_front-append}
-use Rattle.iloc_spec_grammar.proofs.ReadingLaws.{after_front-pieces, front_words, pieces-front_of}
-use Rattle.iloc_spec_grammar.proofs.ReadingLaws.{starts_ends, from_block_starts, front-from_block}
+use Rattle.iloc_spec_grammar.proofs.Readings.{
+  IsLong,
+  IsNoKey,
+  KeysPass,
+  transform_of-pieces,
+  language_no_key,
+  long_after_language,
+  fields_pass,
+  fields_read,
+  fields_past,
+}
+use Rattle.iloc_spec_grammar.proofs.ReadingLaws.{
+  EndsWords,
+  front_of-append,
+  after_front-append,
+  after_front-pieces,
+  front_words,
+  pieces-front_of,
+  starts_ends,
+  from_block_starts,
+  front-from_block,
+}
 use Rattle.iloc_spec_grammar.proofs.ReadBack.{fields_each, plain_fields}
 use Rattle.iloc_spec_grammar.proofs.RuleTests.{tests_block, tests_fails, tests_different, tests_denied}
 use Rattle.iloc_spec_grammar.proofs.RawLaws.{languages_table}
@@ -51,13 +122,7 @@ AreFields ps = (fs : Fields) × AllByRecursion IsField fs × (ps ≡ fields_piec
 block_of_t : (c : ℕ) (ps : List Text) → to_ascii_lowercase c ≡ code_t → IsBlock languages (c, ps)
     → (m : SpelledTransform) × IsTransformBlock languages m × (ps ≡ transform_pieces m)
 block_of_t c ps e (inl h) = absurd (omega (arith, e, h.0))
-block_of_t c ps e (inr (x, h, cut)) = by x h cut
-  where
-    by : (x : Extension) → IsExtension languages (to_ascii_lowercase c) x → ps ≡ extension_pieces x
-        → (m : SpelledTransform) × IsTransformBlock languages m × (ps ≡ transform_pieces m)
-    by (unicode u) h cut = absurd (omega (arith, e, h.0))
-    by (transform m) h cut = (m, h.1, cut)
-    by (other qs) h cut = absurd (no_t (to_ascii_lowercase c) e h.0)
+block_of_t c ps e (inr (x, h, cut)) = grind (arith, no_t)
 
 pub no_language : is_word (Language languages) [] ≡ false
 unfolding is_word languages
@@ -77,18 +142,11 @@ alone ps m none h cut = by m.id m.fields h.id h.fields h.nonempty cut
         → (o ≡ None → 0 < length fs) → ps ≡ optional_pieces o ++ fields_pieces fs → AreFields ps × (ps ≢ [])
     by None fs i f n cut = ((fs, f, cut), λ e. some fs (n refl) (sym cut ∙ e))
     by (Some j) fs i f n cut =
-        absurd (true≢false (sym i.words.language
-        ∙ ap (λ l. is_word (Language languages) (first_piece l)) (sym cut) ∙ none))
+        cc
 
 fields_end : (fs : Fields) → AllByRecursion IsField fs → EndsWords (fields_pieces fs)
 fields_end [] h = record { script = tt; region = tt; variant = tt }
-fields_end (f ∷ fs) h =
-    record {
-      script = key_no_script f.0 h.0.0;
-      region =
-          key_no_region f.0 h.0.0;
-      variant = key_no_variant f.0 h.0.0;
-    }
+fields_end (f ∷ fs) h = search (key_no_script, key_no_region, key_no_variant)
 
 -- what stands after the front of an identifier in it is fields
 after_words : (ps : List Text) (m : SpelledTransform) → IsWord (Language languages) (first_piece ps)
@@ -104,15 +162,8 @@ after_words ps m word h cut = by m.id m.fields h.id h.fields cut
         AllByRecursion IsField fs
         → ps ≡ optional_pieces o ++ fields_pieces fs → AreFields (after_front ps)
     by None fs i f cut = absurd
-        (key_first fs f (subst (λ l. IsWord (Language languages) (first_piece l)) cut word))
-    by (Some j) fs i f cut = (
-      fs,
-      f,
-      ap after_front cut
-          ∙ after_front-append j.language (option_to_list j.script ++ (option_to_list j.region ++ j.variants))
-          (fields_pieces fs) (fields_end fs f)
-          ∙ ap (λ l. l ++ fields_pieces fs) (after_front-pieces j i.words),
-    )
+        (key_first fs f (rw cut at word))
+    by (Some j) fs i f cut = grind (arith, after_front-append, fields_end, after_front-pieces)
 
 pub alone_bad : (c : ℕ) (ps : List Text) → to_ascii_lowercase c ≡ code_t
     → is_word (Language languages) (first_piece ps) ≡ false → (ps ≢ [] → ¬ (AreFields ps))
@@ -134,9 +185,6 @@ front_bad c ps e word bad =
 abbrev IsFieldWord : Text → Type 0
 IsFieldWord p = IsWord TransformKey p ⊎ IsWord Attribute p
 
-field_words : (fs : Fields) → AllByRecursion IsField fs → AllByRecursion IsFieldWord (fields_pieces fs)
-field_words fs h = fields_each IsFieldWord TransformKey (λ p k. inl k) (λ p a. inr a) fs (plain_fields fs h)
-
 last_of : (P : Text → Type 0) (ps : List Text) (q : Text) (qs : List Text) → AllByRecursion P (ps ++ (q ∷ qs))
     → P q
 last_of P [] q qs h = h.0
@@ -148,14 +196,14 @@ no_fields_first q qs none (fs, h, cut) = by fs h cut
   where
     by : (fs : Fields) → AllByRecursion IsField fs → q ∷ qs ≡ fields_pieces fs → ⊥
     by [] h cut = cc
-    by (f ∷ fs) h cut = true≢false
-        (sym h.0.0 ∙ ap (λ l. is_word TransformKey (first_piece l)) (sym cut) ∙ none)
+    by (f ∷ fs) h cut = cc
 
 -- one that is neither key nor value comes after fields
 pub no_fields_later : (ps : List Text) (q : Text) (qs : List Text) → IsNoKey q → is_word Attribute q ≡ false
     → ¬ (AreFields (ps ++ (q ∷ qs)))
 no_fields_later ps q qs none odd (fs, h, cut) =
-    by (last_of IsFieldWord ps q qs (subst (AllByRecursion IsFieldWord) (sym cut) (field_words fs h)))
+    by (last_of IsFieldWord ps q qs (rw cut (fields_each IsFieldWord TransformKey (λ p k. inl k)
+    (λ p a. inr a) fs (plain_fields fs h))))
   where
     by : IsFieldWord q → ⊥
     by (inl k) = true≢false (sym k ∙ none)
@@ -163,7 +211,7 @@ no_fields_later ps q qs none odd (fs, h, cut) =
 
 -- a key without a value comes after fields
 pub no_fields_key : (ps : List Text) → EndsInKey ps → ¬ (AreFields ps)
-no_fields_key ps k (gs, h, cut) = bad_value (last_field k.fields (subst (AllByRecursion IsField) same h))
+no_fields_key ps k (gs, h, cut) = bad_value (last_field k.fields (rw same at h))
   where
     test : Text → Bool
     test = is_word TransformKey
@@ -192,8 +240,12 @@ no_fields_key ps k (gs, h, cut) = bad_value (last_field k.fields (subst (AllByRe
         rw (first, all, values, others) (ap (λ l. f ∷ l) (from_key fs p.1))
 
     same : gs ≡ k.fields ++ ((k.key, before_key test k.rest) ∷ fields_from test k.rest)
-    same = sym (fields_read test gs (fields_pass gs h)) ∙ ap (fields_from test) (sym cut ∙ k.cut)
-        ∙ from_key k.fields (fields_pass k.fields k.each)
+    same = cc (
+      fields_read test gs (fields_pass gs h),
+      cut,
+      k.cut,
+      from_key k.fields (fields_pass k.fields k.each),
+    )
 
     last_field : (fs : Fields)
         → AllByRecursion IsField (fs ++ ((k.key, before_key test k.rest) ∷ fields_from test k.rest))
@@ -208,11 +260,7 @@ no_fields_key ps k (gs, h, cut) = bad_value (last_field k.fields (subst (AllByRe
             → AllByRecursion (IsWord Attribute) (before_key test qs) → 0 < length (before_key test qs) → ⊥
         by [] none each some = omega arith
         by (q ∷ qs) none each some =
-            (elim (test q) as (λ b. AllByRecursion (IsWord Attribute) (cond b [] (q ∷ before_key test qs))
-            → 0 < length (cond b [] (q ∷ before_key test qs)) → ⊥) [
-              | true ↦ λ each some. omega arith
-              | false ↦ λ each some. true≢false (sym each.0 ∙ none)
-            ]) each some
+            grind (arith, true≢false)
 
 -- ---- the identifier at the front
 
@@ -234,7 +282,7 @@ body_first p ps h = front_first p ps (long_language p h)
 
 pub first_body : AtLanguage (λ ps. IsWord (Language languages) (first_piece (front ps)))
 first_body = at_language _
-    (λ p ps h. subst (λ l. IsWord (Language languages) (first_piece l)) (sym (body_first p ps h)) h)
+    (λ p ps h. rw (body_first p ps h) h)
 
 -- reading loses nothing
 pub pieces_front_of : AtLanguage (λ ps. identifier_pieces (front_of ps) ++ after_front ps ≡ ps)
@@ -243,10 +291,12 @@ pieces_front_of = at_language _ (λ p ps h. pieces-front_of p ps)
 -- the words are the same of the body
 pub front_of_body : AtLanguage (λ ps. front_of (front ps) ≡ front_of ps)
 front_of_body = at_language _ (λ p ps h.
-    ap front_of (body_first p ps h)
-    ∙ sym (front_of-append p (front ps) (from_block ps)
-    (starts_ends (from_block ps) (from_block_starts ps)))
-    ∙ ap (λ l. front_of (p ∷ l)) (front-from_block ps))
+    cc (
+      body_first p ps h,
+      front_of-append p (front ps) (from_block ps)
+          (starts_ends (from_block ps) (from_block_starts ps)),
+      front-from_block ps,
+    ))
 
 pub words_front : (ps : List Text) → IsWord (Language languages) (first_piece ps)
     → HasWords languages (front_of ps)
@@ -265,8 +315,7 @@ after_front_body ps h =
     let whole : front ps ≡ ids ++ front rest =
     ap front (sym (pieces_front_of ps h)) ∙ front_past ids rest (long_front ps h) in
     append_cancel_left ids _ _
-    (ap (λ i. identifier_pieces i ++ after_front (front ps)) (sym (front_of_body ps h))
-    ∙ pieces_front_of (front ps) (first_body ps h) ∙ whole)
+    (cc (front_of_body ps h, pieces_front_of (front ps) (first_body ps h), whole))
 
 -- a variant that comes twice
 pub repeats : AtLanguage
@@ -274,13 +323,13 @@ pub repeats : AtLanguage
     → repeats_variant languages (front ps) ≡ true)
 repeats ps h n = and_from _ _ (first_body ps h)
     ((tests_denied (tests_different word_cmp _)).passes
-    (subst (λ i. ¬ (AllDifferent word_cmp (map lower i.variants))) (sym (front_of_body ps h)) n))
+    (rw (← (front_of_body ps h)) at n))
 
 pub no_repeat : AtLanguage
     (λ ps. AllDifferent word_cmp (map lower (front_of ps).variants)
     → ¬ (repeats_variant languages (front ps) ≡ true))
 no_repeat ps h d e = (tests_denied (tests_different word_cmp _)).holds (and_parts _ _ e).1
-    (subst (λ i. AllDifferent word_cmp (map lower i.variants)) (sym (front_of_body ps h)) d)
+    (rw (← (front_of_body ps h)) at d)
 
 -- the variants come after the region
 pub variants_of : (ps qs : List Text) → qs ≡ after_region ps

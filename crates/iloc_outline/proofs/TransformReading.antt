@@ -1,26 +1,67 @@
 -- What the reader of `t` says.
-use Rattle.std.proofs.Common.{◌≡◌, ◌≢◌, ◌⊎◌, inl, inr, ℕ, ◌+◌, ◌-◌, ◌<◌, Bool, true, false, cond, List, []}
+use Rattle.std.proofs.Common.{◌≡◌, ◌≢◌, ◌⊎◌, inl, inr, ℕ, ◌+◌, ◌-◌, ◌<◌, Bool, true, false, List, []}
 use Rattle.std.proofs.Common.{◌∷◌, ◌++◌, length, map, refl, sym, ap, ◌∙◌, subst, arith, Option, Some, None}
-use Rattle.std.proofs.Common.{option_to_list, append_assoc, append-nil, length-append}
+use Rattle.std.proofs.Common.{append_assoc, append-nil, length-append}
 use Rattle.std.specs.List.{AllByRecursion}
 use Rattle.std.specs.Char.{to_ascii_lowercase}
 use Rattle.std.proofs.lemmas.List.{append_cancel_left}
-use Rattle.iloc_spec_grammar.specs.Syntax.{Text, code_t, Language, Variant, TransformKey, Attribute, is_word}
-use Rattle.iloc_spec_grammar.specs.Syntax.{IsWord, IsField, Fields, Spelled, SpelledIdentifier}
-use Rattle.iloc_spec_grammar.specs.Syntax.{SpelledTransform, AllDifferent, fields_pieces, identifier_pieces}
-use Rattle.iloc_spec_grammar.specs.Syntax.{optional_pieces, transform_pieces, languages, is_one_byte}
-use Rattle.iloc_spec_grammar.specs.Syntax.{is_other_singleton, first_piece, front, lower, word_cmp}
+use Rattle.iloc_spec_grammar.specs.Syntax.{
+  Text,
+  code_t,
+  Language,
+  Variant,
+  TransformKey,
+  Attribute,
+  is_word,
+  IsWord,
+  IsField,
+  Fields,
+  Spelled,
+  SpelledIdentifier,
+  SpelledTransform,
+  AllDifferent,
+  fields_pieces,
+  identifier_pieces,
+  optional_pieces,
+  transform_pieces,
+  languages,
+  is_one_byte,
+  is_other_singleton,
+  first_piece,
+  front,
+  lower,
+  word_cmp,
+}
 use Rattle.iloc_spec_grammar.specs.Tree.{IsTransformBlock}
-use Rattle.iloc_spec_grammar.specs.Reading.{after_front, after_region, front_of, passing, transform_of}
+use Rattle.iloc_spec_grammar.specs.Reading.{after_front, after_region, front_of, passing}
 use Rattle.iloc_spec_grammar.proofs.PiecesLaws.{pieces_nonempty}
 use Rattle.iloc_spec_grammar.proofs.Readings.{IsLong, long_attribute}
 use Rattle.iloc_spec_grammar.proofs.ReadBack.{all_append, fields_each, plain_fields}
 use Rattle.iloc_spec_grammar.proofs.WordsLaws.{length-transform_key}
 use Rattle.iloc_pieces.specs.Cursor.{IsPast, IsSpanned, piece_left, pieces_left, bytes_left, whole_text}
-use Rattle.iloc_outline.specs.Parts.{block_parts, field_part, front_pieces, in_order, optional_front}
-use Rattle.iloc_outline.specs.Parts.{optional_variants, rank, singleton_part, transform_parts, variant_parts}
-use Rattle.iloc_outline.specs.Reading.{AreFieldsRead, AreWordsRead, EndsAtBlock, EndsInKey, IsBody}
-use Rattle.iloc_outline.specs.Reading.{Puts, ReadsBlock, ReadsFields, ReadsWords, block_span}
+use Rattle.iloc_outline.specs.Parts.{
+  field_part,
+  front_pieces,
+  in_order,
+  optional_front,
+  optional_variants,
+  rank,
+  singleton_part,
+  transform_parts,
+  variant_parts,
+}
+use Rattle.iloc_outline.specs.Reading.{
+  AreFieldsRead,
+  AreWordsRead,
+  EndsAtBlock,
+  EndsInKey,
+  IsBody,
+  Puts,
+  ReadsBlock,
+  ReadsFields,
+  ReadsWords,
+  block_span,
+}
 use Rattle.iloc_spans.specs.Spans.{held_spans}
 use Rattle.iloc_pieces.specs.declared.place.Cursor.{Cursor}
 use Rattle.iloc_outline.specs.declared.reading.Found.{Found}
@@ -28,12 +69,36 @@ use Rattle.iloc_outline.specs.declared.reading.Found.TheVariants.{End, Next, Bad
 use Rattle.iloc_spans.specs.declared.span.Role.TheVariants as roles
 use Rattle.iloc_spans.specs.declared.spans.Spans.{Spans}
 use Rattle.iloc_pieces.proofs.CursorLemmas.{past_past}
-use Rattle.iloc_outline.proofs.BodyLemmas.{front_ends, front_first, front_goes_on, front_past, front_single}
-use Rattle.iloc_outline.proofs.BodyLemmas.{front_whole, puts_none, puts_singleton, puts_then, some_passed}
-use Rattle.iloc_outline.proofs.TransformLemmas.{AreFields, after_front_body, alone_bad, first_body, front_bad}
-use Rattle.iloc_outline.proofs.TransformLemmas.{long_front, no_repeat, pieces_front_of, repeats, variants_of}
-use Rattle.iloc_outline.proofs.TransformLemmas.{words_front, no_fields_first, no_fields_key, no_fields_later}
-use Rattle.iloc_outline.proofs.TransformLemmas.{none_repeats, transform_good}
+use Rattle.iloc_outline.proofs.BodyLemmas.{
+  front_ends,
+  front_first,
+  front_goes_on,
+  front_past,
+  front_single,
+  front_whole,
+  puts_none,
+  puts_singleton,
+  puts_then,
+  some_passed,
+}
+use Rattle.iloc_outline.proofs.TransformLemmas.{
+  AreFields,
+  after_front_body,
+  alone_bad,
+  first_body,
+  front_bad,
+  long_front,
+  no_repeat,
+  pieces_front_of,
+  repeats,
+  variants_of,
+  words_front,
+  no_fields_first,
+  no_fields_key,
+  no_fields_later,
+  none_repeats,
+  transform_good,
+}
 
 -- ---- good blocks
 
@@ -41,15 +106,25 @@ use Rattle.iloc_outline.proofs.TransformLemmas.{none_repeats, transform_good}
 pub pieces_front : (o : Option SpelledIdentifier) →
     optional_pieces o ≡ optional_front o ++ optional_variants o
 pieces_front None = refl
-pieces_front (Some i) =
-    ap (λ ps. i.language ∷ ps)
-    (sym (append_assoc (option_to_list i.script) (option_to_list i.region) i.variants))
+pieces_front (Some i) = simp append_assoc
 
--- the parts of the block
-parts_of_t : (c : ℕ) (ps : List Text) (m : SpelledTransform) → to_ascii_lowercase c ≡ code_t →
-    transform_of ps ≡ m
-    → block_parts (c, ps) ≡ singleton_part c (optional_front m.id) ∷ transform_parts m
-parts_of_t c ps m e h = rw (e, h)
+no_items : (xs ys : List Text) → xs ++ ys ≡ [] → xs ≡ []
+no_items [] ys h = refl
+no_items (x ∷ xs) ys h = cc
+
+-- where nothing follows language, script and region, they are the identifier
+pub front_is_all : (ps : List Text) → IsWord (Language languages) (first_piece ps)
+    → ps ≡ front_pieces (front_of ps)
+    → ((front_of ps).variants ≡ []) × (ps ≡ identifier_pieces (front_of ps))
+front_is_all ps word cut = grind (
+  arith,
+  no_items,
+  append_cancel_left,
+  append_assoc,
+  pieces_front,
+  pieces_front_of,
+  append-nil,
+)
 
 -- the singleton with the front of an identifier, variants and fields were put
 good_block : (c start end : ℕ) (l : Cursor) (id : Option SpelledIdentifier) (fs : Fields)
@@ -66,8 +141,7 @@ good_block c start end l id fs old mid mid' new o o' n e spanned put variants fi
     let m : SpelledTransform = record { id = id; fields = fs } in
     let known : is_other_singleton (to_ascii_lowercase c) ≡ false = ap is_other_singleton e in
     let place =
-    subst (λ (w : ℕ). held_spans mid ≡ held_spans old ++ block_span w start end false ∷ []) (sym (ap rank e))
-    put in
+    rw (← (ap rank e)) at put in
     let singleton =
     puts_singleton (whole_text l) c start end (optional_front id) old mid o spanned known place
     in
@@ -85,9 +159,8 @@ good_block c start end l id fs old mid mid' new o o' n e spanned put variants fi
       body = body;
       good = good.0;
       puts = subst (λ parts. Puts (whole_text l) parts ((c ∷ []) ∷ transform_pieces m) old new o n)
-          (sym (parts_of_t c (transform_pieces m) m e good.1))
-          (subst (λ ps. Puts (whole_text l) (singleton_part c (optional_front id) ∷ transform_parts m)
-          ((c ∷ []) ∷ ps) old new o n) pieces all);
+          (sym (cc))
+          (rw pieces at all);
     }
 
 long_fields : (fs : Fields) → AllByRecursion IsField fs → AllByRecursion IsLong (fields_pieces fs)
@@ -99,23 +172,7 @@ long_fields fs h = fields_each IsLong TransformKey long_key long_attribute fs (p
 -- a key without a value in the body
 body_ends_in_key : (ps : List Text) → EndsInKey ps → EndsInKey (front ps)
 unfolding is_word
-body_ends_in_key ps k = record {
-  fields = k.fields;
-  each = k.each;
-  key = k.key;
-  is_key = k.is_key;
-  rest = front k.rest;
-  cut = ap front k.cut ∙ front_past (fields_pieces k.fields) (k.key ∷ k.rest) (long_fields k.fields k.each)
-      ∙ ap (λ qs. fields_pieces k.fields ++ qs)
-      (front_first k.key k.rest (let l = length-transform_key k.key k.is_key in rw l));
-  none = none k.rest k.none;
-}
-  where
-    none : (qs : List Text) → is_word Attribute (first_piece qs) ≡ false
-        → is_word Attribute (first_piece (front qs)) ≡ false
-    none [] h = h
-    none (q ∷ qs) h = elim (is_one_byte q) as
-        (λ b. is_word Attribute (first_piece (cond b [] (q ∷ front qs))) ≡ false) [ true ↦ refl | false ↦ h ]
+body_ends_in_key ps k = grind (arith, front_past, long_fields, front_first, length-transform_key)
 
 -- ---- fields without an identifier
 
@@ -128,21 +185,15 @@ module _ (c start : ℕ) (l : Cursor) (e : to_ascii_lowercase c ≡ code_t)
       by : (ps : List Text) → is_word (Language languages) (first_piece ps) ≡ false
           → is_word (Language languages) (first_piece (front ps)) ≡ false
       by [] h = h
-      by (p ∷ ps) h = elim (is_one_byte p) as
-          (λ b. is_word (Language languages) (first_piece (cond b [] (p ∷ front ps))) ≡ false)
-          [ true ↦ refl | false ↦ h ]
+      by (p ∷ ps) h = grind (arith)
 
   bad_alone : (m : Cursor) (old new : Spans) (o n : Bool)
       → (front (pieces_left l) ≢ [] → ¬ (AreFields (front (pieces_left l)))) → IsBody c l m old new o n Bad
-  bad_alone m old new o n bad = (
-    alone_bad c (front (pieces_left l)) e body_none bad,
-    λ h. none_repeats (front (pieces_left l)) body_none h.1,
-  )
+  bad_alone m old new o n bad = grind (arith, alone_bad, body_none, none_repeats)
 
   pub transform_single : (m : Cursor) (old new : Spans) (o n : Bool) → is_one_byte (piece_left l) ≡ true
       → IsBody c l m old new o n Bad
-  transform_single m old new o n single =
-      bad_alone m old new o n (λ some. absurd (some (front_single (pieces_left l) single)))
+  transform_single m old new o n single = search (bad_alone, front_single)
 
   module _ (spanned : IsSpanned (whole_text l) start (l.at - 1) ((c ∷ []) ∷ []))
       (long : is_one_byte (piece_left l) ≡ false) (old mid : Spans) (o : Bool)
@@ -162,8 +213,8 @@ module _ (c start : ℕ) (l : Cursor) (e : to_ascii_lowercase c ≡ code_t)
     alone_end : (k : Cursor) (new : Spans) (n : Bool) → AreFieldsRead roles.Field l k mid new o n End
         → IsBody c l k old new o n End
     alone_end k new n (fs, cut, h) =
-        subst (λ ps. ReadsBlock c l ps old new o n) (sym cut)
-        (good_alone new n fs h.each (λ empty. pieces_nonempty (bytes_left l) (cut ∙ ap fields_pieces empty))
+        rw cut (good_alone new n fs h.each (λ empty. pieces_nonempty (bytes_left l)
+        (cut ∙ ap fields_pieces empty))
         h.puts (ap front cut ∙ front_whole (fields_pieces fs) (long_fields fs h.each)))
 
     alone_next : (k : Cursor) (new : Spans) (n : Bool) → AreFieldsRead roles.Field l k mid new o n Next
@@ -195,23 +246,14 @@ module _ (c start : ℕ) (l : Cursor) (e : to_ascii_lowercase c ≡ code_t)
 
     pub alone_read : (k : Cursor) (new : Spans) (n : Bool) (r s : Found)
         → AreFieldsRead roles.Field l k mid new o n r → EndsAtBlock k r s → IsBody c l k old new o n s
-    alone_read k new n End s h ends = subst (IsBody c l k old new o n) ends (alone_end k new n h)
+    alone_read k new n End s h ends = rw (← ends) (alone_end k new n h)
     alone_read k new n Next Next h ends = alone_next k new n h ends
     alone_read k new n Next Bad h ends = alone_stranger k new n h ends
     alone_read k new n Next _ h ends = absurd (ends tt)
     alone_read k new n Bad s h ends =
-        subst (IsBody c l k old new o n) ends
-        (bad_alone k old new o n
-        (λ _ f. no_fields_key (front (pieces_left l)) (body_ends_in_key (pieces_left l) h.1) f))
+        rw (← ends) (search (bad_alone, no_fields_key, body_ends_in_key))
     alone_read k new n Repeated s h ends = absurd (h tt)
-    alone_read k new n Full s h ends =
-        subst (IsBody c l k old new o n) ends
-        (omega (
-          arith,
-          ap length put,
-          length-append (held_spans old) (block_span code_t start (l.at - 1) false ∷ []),
-          h,
-        ))
+    alone_read k new n Full s h ends = grind (arith, length-append)
 
 -- ---- an identifier, and fields
 
@@ -226,11 +268,7 @@ module _ (c start end : ℕ) (l : Cursor) (e : to_ascii_lowercase c ≡ code_t)
   bad_after : (k : Cursor) (new : Spans) (n : Bool)
       → AllDifferent word_cmp (map lower (front_of (pieces_left l)).variants)
       → ¬ (AreFields (front (after_front (pieces_left l)))) → IsBody c l k old new o n Bad
-  bad_after k new n different bad = (
-    front_bad c (front (pieces_left l)) e (first_body (pieces_left l) word)
-        (λ f. bad (subst AreFields (after_front_body (pieces_left l) word) f)),
-    λ h. no_repeat (pieces_left l) word different h.1,
-  )
+  bad_after k new n different bad = grind (arith, front_bad, first_body, after_front_body, no_repeat)
 
   good_id : (mid' new : Spans) (o' n : Bool) (fs : Fields)
       → AllDifferent word_cmp (map lower (front_of (pieces_left l)).variants) → AllByRecursion IsField fs
@@ -243,58 +281,42 @@ module _ (c start end : ℕ) (l : Cursor) (e : to_ascii_lowercase c ≡ code_t)
   good_id mid' new o' n fs different h variants fields body =
       good_block c start end l (Some (front_of (pieces_left l))) fs old mid mid' new o o' n e spanned put
       variants fields
-      (record {
-        id = record { words = words_front (pieces_left l) word; different = different };
-        fields =
-            h;
-        nonempty = λ none. cc;
-      }) body
+      (grind (arith, words_front)) body
 
   -- language, script and region alone
   pub front_alone : (k : Cursor) → pieces_left l ≡ front_pieces (front_of (pieces_left l))
       → IsBody c l k old mid o o End
   front_alone k cut =
       let i = front_of (pieces_left l) in
-      let none : i.variants ≡ [] =
-      no_items i.variants (after_front (pieces_left l)) (append_cancel_left (front_pieces i) _ []
-      (sym (append_assoc (front_pieces i) i.variants (after_front (pieces_left l)))
-      ∙ ap (λ ps. ps ++ after_front (pieces_left l)) (sym (pieces_front (Some i)))
-      ∙ pieces_front_of (pieces_left l) word ∙ cut ∙ sym (append-nil (front_pieces i)))) in
+      let whole = front_is_all (pieces_left l) word cut in
+      let none = whole.0 in
       let all : pieces_left l ≡ identifier_pieces i ++ [] =
-      cut ∙ sym (pieces_front (Some i) ∙ ap (λ vs. front_pieces i ++ vs) none ∙ append-nil (front_pieces i))
-      ∙ sym (append-nil (identifier_pieces i)) in
+      whole.1 ∙ sym (append-nil (identifier_pieces i)) in
       let body : front (pieces_left l) ≡ identifier_pieces i ++ [] =
-      ap front (all ∙ append-nil (identifier_pieces i))
-      ∙ front_whole (identifier_pieces i) (long_front (pieces_left l) word)
-      ∙ sym (append-nil (identifier_pieces i)) in
+      grind (arith, append-nil, front_whole, long_front) in
       subst (λ ps. ReadsBlock c l ps old mid o o) (sym all)
-      (good_id mid mid o o [] (subst (λ vs. AllDifferent word_cmp (map lower vs)) (sym none) tt) tt
-      (subst (λ vs. Puts (whole_text l) (variant_parts vs) vs mid mid o o) (sym none)
-      (puts_none (whole_text l) mid o)) (puts_none (whole_text l) mid o) body)
-    where
-      no_items : (xs ys : List Text) → xs ++ ys ≡ [] → xs ≡ []
-      no_items [] ys h = refl
-      no_items (x ∷ xs) ys h = cc
+      (good_id mid mid o o [] (rw none tt) tt
+      (rw none (puts_none (whole_text l) mid o)) (puts_none (whole_text l) mid o) body)
 
   -- variants were put
   module _ (m : Cursor) (first : IsPast l m (front_pieces (front_of (pieces_left l))))
       (after : pieces_left m ≡ after_region (pieces_left l)) where
     variants_all : (vs : List Text) (mid' : Spans) (o' : Bool) → ReadsWords roles.Variant m vs mid mid' o o'
         → vs ≡ (front_of (pieces_left l)).variants
-    variants_all vs mid' o' h = h.words ∙ variants_of (pieces_left l) (pieces_left m) after
+    variants_all vs mid' o' h = grind (arith, variants_of)
 
     all_different : (vs : List Text) (mid' : Spans) (o' : Bool) → ReadsWords roles.Variant m vs mid mid' o o'
         → AllDifferent word_cmp (map lower (front_of (pieces_left l)).variants)
     all_different vs mid' o' h =
-        subst (λ ws. AllDifferent word_cmp (map lower ws)) (variants_all vs mid' o' h) h.may_be
+        rw (variants_all vs mid' o' h) at h.may_be
 
     variants_put : (vs : List Text) (mid' : Spans) (o' : Bool) → ReadsWords roles.Variant m vs mid mid' o o'
         → Puts (whole_text l) (variant_parts (front_of (pieces_left l)).variants)
         (front_of (pieces_left l)).variants
         mid mid' o o'
     variants_put vs mid' o' h =
-        subst (λ ws. Puts (whole_text l) (variant_parts ws) ws mid mid' o o') (variants_all vs mid' o' h)
-        (subst (λ t. Puts t (variant_parts vs) vs mid mid' o o') first.text h.puts)
+        rw (variants_all vs mid' o' h) at (subst (λ t. Puts t
+        (variant_parts vs) vs mid mid' o o') first.text h.puts)
 
     identifier_all : (vs : List Text) (mid' : Spans) (o' : Bool) → ReadsWords roles.Variant m vs mid mid' o o'
         → front_pieces (front_of (pieces_left l)) ++ vs ≡ identifier_pieces (front_of (pieces_left l))
@@ -309,23 +331,15 @@ module _ (c start end : ℕ) (l : Cursor) (e : to_ascii_lowercase c ≡ code_t)
         let all : pieces_left l ≡ identifier_pieces i ++ [] =
         first.pieces ∙ identifier_all (pieces_left m) new n h ∙ sym (append-nil (identifier_pieces i)) in
         let body : front (pieces_left l) ≡ identifier_pieces i ++ [] =
-        ap front (all ∙ append-nil (identifier_pieces i))
-        ∙ front_whole (identifier_pieces i) (long_front (pieces_left l) word)
-        ∙ sym (append-nil (identifier_pieces i)) in
-        subst (λ ps. ReadsBlock c l ps old new o n) (sym all)
-        (good_id new new n n [] (all_different (pieces_left m) new n h) tt
+        grind (arith, append-nil, front_whole, long_front) in
+        rw all (good_id new new n n [] (all_different (pieces_left m) new n h) tt
         (variants_put (pieces_left m) new n h)
         (puts_none (whole_text l) new n) body)
 
     variants_repeated : (k : Cursor) (new : Spans) (n : Bool)
         → ¬ (AllDifferent word_cmp (map lower (passing (is_word Variant) (pieces_left m))))
         → IsBody c l k old new o n Repeated
-    variants_repeated k new n h = (
-      e,
-      repeats (pieces_left l) word
-          (subst (λ ws. ¬ (AllDifferent word_cmp (map lower ws)))
-          (variants_of (pieces_left l) (pieces_left m) after) h),
-    )
+    variants_repeated k new n h = grind (arith, repeats, variants_of)
 
     -- ... and then fields
     module _ (k : Cursor) (vs : List Text) (past : IsPast m k vs)
@@ -341,40 +355,29 @@ module _ (c start end : ℕ) (l : Cursor) (e : to_ascii_lowercase c ≡ code_t)
 
       fields_put : (new : Spans) (n : Bool) (fs : Fields) → ReadsFields roles.Field k fs mid' new o' n
           → Puts (whole_text l) (in_order (map (field_part roles.Field) fs)) (fields_pieces fs) mid' new o' n
-      fields_put new n fs h =
-          subst (λ t. Puts t (in_order (map (field_part roles.Field) fs)) (fields_pieces fs) mid' new o' n)
-          before.text h.puts
+      fields_put new n fs h = grind arith
 
       good_fields : (new : Spans) (n : Bool) (fs : Fields) → ReadsFields roles.Field k fs mid' new o' n
           → front (pieces_left l) ≡ identifier_pieces (front_of (pieces_left l)) ++ fields_pieces fs
           → ReadsBlock c l (identifier_pieces (front_of (pieces_left l)) ++ fields_pieces fs) old new o n
-      good_fields new n fs h body =
-          good_id mid' new o' n fs (all_different vs mid' o' words) h.each (variants_put vs mid' o' words)
-          (fields_put new n fs h) body
+      good_fields new n fs h body = search (good_id, all_different, variants_put, fields_put)
 
       long_all : (fs : Fields) → AllByRecursion IsField fs
           → AllByRecursion IsLong (identifier_pieces (front_of (pieces_left l)) ++ fields_pieces fs)
-      long_all fs h = all_append IsLong (identifier_pieces (front_of (pieces_left l))) (fields_pieces fs)
-          (long_front (pieces_left l) word) (long_fields fs h)
+      long_all fs h = search (all_append, long_front, long_fields)
 
       fields_end : (j : Cursor) (new : Spans) (n : Bool) → AreFieldsRead roles.Field k j mid' new o' n End
           → IsBody c l j old new o n End
       fields_end j new n (fs, cut, h) =
           let ids = identifier_pieces (front_of (pieces_left l)) in
           let all : pieces_left l ≡ ids ++ fields_pieces fs = before.pieces ∙ ap (λ ps. ids ++ ps) cut in
-          subst (λ ps. ReadsBlock c l ps old new o n) (sym all)
-          (good_fields new n fs h
+          rw all (good_fields new n fs h
           (ap front all ∙ front_whole (ids ++ fields_pieces fs) (long_all fs h.each)))
 
       fields_next : (j : Cursor) (new : Spans) (n : Bool) → AreFieldsRead roles.Field k j mid' new o' n Next
           → is_one_byte (piece_left j) ≡ true → IsBody c l j old new o n Next
       fields_next j new n (fs, later, no_key, either, h) one =
-          let both = past_past before later in (
-            identifier_pieces (front_of (pieces_left l)) ++ fields_pieces fs,
-            both,
-            one,
-            good_fields new n fs h (front_ends l j _ both.pieces (long_all fs h.each) one),
-          )
+          let both = past_past before later in search (good_fields, front_ends, long_all)
 
       fields_stranger : (j : Cursor) (new : Spans) (n : Bool)
           → AreFieldsRead roles.Field k j mid' new o' n Next → is_one_byte (piece_left j) ≡ false
@@ -395,34 +398,19 @@ module _ (c start end : ℕ) (l : Cursor) (e : to_ascii_lowercase c ≡ code_t)
 
       fields_read : (j : Cursor) (new : Spans) (n : Bool) (r s : Found)
           → AreFieldsRead roles.Field k j mid' new o' n r → EndsAtBlock j r s → IsBody c l j old new o n s
-      fields_read j new n End s h ends = subst (IsBody c l j old new o n) ends (fields_end j new n h)
+      fields_read j new n End s h ends = rw (← ends) (fields_end j new n h)
       fields_read j new n Next Next h ends = fields_next j new n h ends
       fields_read j new n Next Bad h ends = fields_stranger j new n h ends
       fields_read j new n Next _ h ends = absurd (ends tt)
       fields_read j new n Bad s h ends =
-          subst (IsBody c l j old new o n) ends
-          (bad_after j new n (all_different vs mid' o' words)
-          (λ f. no_fields_key (front (pieces_left k)) (body_ends_in_key (pieces_left k) h.1)
-          (subst AreFields (ap front left_over) f)))
+          rw (← ends) (search (bad_after, all_different, no_fields_key, body_ends_in_key, left_over))
       fields_read j new n Repeated s h ends = absurd (h tt)
-      fields_read j new n Full s h ends =
-          subst (IsBody c l j old new o n) ends
-          (omega (
-            arith,
-            one_more,
-            words.puts.few,
-            h,
-            ap length first.pieces,
-            length-append (front_pieces (front_of (pieces_left l))) (pieces_left m),
-            ap length past.pieces,
-            length-append vs (pieces_left k),
-          ))
+      fields_read j new n Full s h ends = grind (arith, one_more, length-append)
 
     pub variants_read : (k j : Cursor) (mid' new : Spans) (o' n : Bool) (r s : Found)
         → AreWordsRead roles.Variant m k mid mid' o o' Next → AreFieldsRead roles.Field k j mid' new o' n r
         → EndsAtBlock j r s → IsBody c l j old new o n s
-    variants_read k j mid' new o' n r s (vs, past, odd, words) =
-        fields_read k vs past odd mid' o' words j new n r s
+    variants_read k j mid' new o' n r s (vs, past, odd, words) = grind (arith, fields_read)
 
     pub variants_alone : (k : Cursor) (new : Spans) (n : Bool) (r : Found)
         → AreWordsRead roles.Variant m k mid new o n r → r ≢ Next → IsBody c l k old new o n r
@@ -430,11 +418,4 @@ module _ (c start end : ℕ) (l : Cursor) (e : to_ascii_lowercase c ≡ code_t)
     variants_alone k new n Next h ends = absurd (ends refl)
     variants_alone k new n Bad h ends = absurd (h tt)
     variants_alone k new n Repeated h ends = variants_repeated k new n h.1
-    variants_alone k new n Full h ends =
-        omega (
-          arith,
-          one_more,
-          h,
-          ap length first.pieces,
-          length-append (front_pieces (front_of (pieces_left l))) (pieces_left m),
-        )
+    variants_alone k new n Full h ends = grind (arith, one_more, length-append)

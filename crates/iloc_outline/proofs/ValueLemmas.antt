@@ -1,6 +1,6 @@
 -- Values of keys: how they are printed, and how they are passed.
 use Rattle.std.proofs.Common.{◌≡◌, ℕ, ◌+◌, ◌-◌, ◌<◌, ◌≤◌, Bool, true, false, cond, not, ◌||◌, List, [], ◌∷◌}
-use Rattle.std.proofs.Common.{◌++◌, length, map, codes, refl, sym, ap, ◌∙◌, subst, arith, length-append}
+use Rattle.std.proofs.Common.{◌++◌, length, map, codes, refl, sym, ap, ◌∙◌, arith, length-append}
 use Rattle.std.specs.List.{AllByRecursion, list_any}
 use Rattle.std.proofs.lemmas.Bool.{or_parts}
 use Rattle.std.proofs.lemmas.List.Folds.{list_any-append}
@@ -10,14 +10,19 @@ use Rattle.iloc_spec_grammar.specs.Values.{spelled_value}
 use Rattle.iloc_spec_grammar.proofs.MapLaws.{same_is}
 use Rattle.iloc_spec_grammar.proofs.ReadBack.{all_append}
 use Rattle.iloc_outline.specs.Fields.{PrintsAsItIs, IsValueRead}
-use Rattle.iloc_pieces.specs.Cursor.{IsLater, IsNextPiece, IsPast, IsShortPiece, IsSpanned}
-use Rattle.iloc_pieces.specs.Cursor.{piece_left, whole_text}
+use Rattle.iloc_pieces.specs.Cursor.{IsLater, IsNextPiece, IsPast, IsShortPiece, piece_left}
 use Rattle.iloc_outline.specs.Reading.{IsOfField}
 use Rattle.iloc_pieces.specs.declared.place.Cursor.{Cursor}
 use Rattle.iloc_spans.specs.declared.span.Role.{Role}
 use Rattle.iloc_spans.specs.declared.span.Role.TheVariants as roles
-use Rattle.iloc_pieces.proofs.CursorLemmas.{last_piece, past_next, past_none, pieces_end, short_attribute}
-use Rattle.iloc_pieces.proofs.CursorLemmas.{spanned_end}
+use Rattle.iloc_pieces.proofs.CursorLemmas.{
+  last_piece,
+  past_next,
+  past_none,
+  pieces_end,
+  short_attribute,
+  spanned_end,
+}
 
 -- ---- printing
 
@@ -43,9 +48,7 @@ plain_without roles.Keyword h n t e f is long any = ap (λ l. lower f.0 ∷ l) (
 plain_without roles.Field h n t e f is long any =
     ap (λ l. lower f.0 ∷ spelled_value l) (none_left_out f.1 (sym any ∙ e))
     ∙ ap (λ l. lower f.0 ∷ l) (some_spelled f.1 is.2)
-plain_without roles.Variant h n t e f is long any = absurd (h tt)
-plain_without roles.Singleton h n t e f is long any = absurd (h tt)
-plain_without roles.Attribute h n t e f is long any = absurd (h tt)
+plain_without _ h n t e f is long any = absurd (h tt)
 
 or_none : (b : Bool) → (b || false) ≡ b
 or_none true = refl
@@ -67,9 +70,7 @@ pub plain_one : (r : Role) → IsOfField r → (r ≡ roles.Keyword → ⊥) →
 plain_one roles.Keyword h other n t l e f is long any = absurd (other refl)
 plain_one roles.Field h other n t l e f is long any =
     ap (λ vs. lower f.0 ∷ vs) (only_true f.1 (omega (arith, is.2)) (sym any ∙ e))
-plain_one roles.Variant h other n t l e f is long any = absurd (h tt)
-plain_one roles.Singleton h other n t l e f is long any = absurd (h tt)
-plain_one roles.Attribute h other n t l e f is long any = absurd (h tt)
+plain_one _ h other n t l e f is long any = absurd (h tt)
 
 -- ---- passing
 
@@ -88,22 +89,11 @@ pub record Reaches (key at : Cursor) (n : ℕ) (t : Bool) : Type 0 where
 -- none
 pub reaches_key : (key : Cursor) → IsLater key → IsShortPiece (piece_left key) →
     Reaches key key 0 false
-reaches_key key later short = record {
-  before = [];
-  past = past_none key later;
-  values = [];
-  pieces = refl;
-  short = short;
-  each = tt;
-  count = refl;
-  any = refl;
-  room = omega arith;
-}
+reaches_key key later short = grind (arith, past_none)
 
 any_more : (vs : List Text) (v : Text)
     → list_any says_true (vs ++ (v ∷ [])) ≡ (list_any says_true vs || says_true v)
-any_more vs v =
-    list_any-append says_true vs (v ∷ []) ∙ ap (λ b. list_any says_true vs || b) (or_none (says_true v))
+any_more vs v = simp (list_any-append, or_none)
 
 module _ (key at : Cursor) (n : ℕ) (t : Bool) (h : Reaches key at n t) (later : IsLater key) where
   -- nothing follows
@@ -118,8 +108,7 @@ module _ (key at : Cursor) (n : ℕ) (t : Bool) (h : Reaches key at n t) (later 
         count = h.count;
         trues = h.any;
         end = λ start qs s.
-            subst (λ ps. IsSpanned (whole_text key) start (at.at + at.piece_length) (qs ++ ps)) h.pieces
-            (spanned_end h.past end later s);
+            rw h.pieces at (spanned_end h.past end later s);
       }
 
   module _ (next : Cursor) (k : IsNextPiece at next) where
@@ -127,7 +116,7 @@ module _ (key at : Cursor) (n : ℕ) (t : Bool) (h : Reaches key at n t) (later 
     pub value_before : is_word Attribute (piece_left next) ≡ false
         → IsValueRead key next (record { is_end = false; end = next.at - 1; count = n; has_true = t })
     value_before none =
-        let past = subst (IsPast key next) h.pieces (past_next h.past h.short k) in
+        let past = rw h.pieces at (past_next h.past h.short k) in
         record {
           values = h.values;
           each = h.each;

@@ -1,12 +1,20 @@
 -- Words and their spans.
 use Rattle.std.proofs.Common.{◌≡◌, ℕ, ◌+◌, ◌-◌, ◌<◌, ◌≤◌, Bool, true, false, cond, List, [], ◌∷◌, ◌++◌}
-use Rattle.std.proofs.Common.{length, refl, ap, ◌∙◌, subst, arith, append-nil}
+use Rattle.std.proofs.Common.{length, refl, ap, arith, append-nil}
 use Rattle.std.specs.List.{AllByRecursion}
 use Rattle.iloc_spec_grammar.specs.Syntax.{Text, Kind, IsWord, is_word, lower, first_piece}
 use Rattle.iloc_spec_grammar.specs.Reading.{passing, EndsBefore}
 use Rattle.iloc_spec_grammar.proofs.PiecesLaws.{at_pieces}
-use Rattle.iloc_pieces.specs.Cursor.{IsLater, IsPast, IsShortPiece, IsSpanned, piece_left}
-use Rattle.iloc_pieces.specs.Cursor.{pieces_left, bytes_left, whole_text}
+use Rattle.iloc_pieces.specs.Cursor.{
+  IsLater,
+  IsPast,
+  IsShortPiece,
+  IsSpanned,
+  piece_left,
+  pieces_left,
+  bytes_left,
+  whole_text,
+}
 use Rattle.iloc_pieces.specs.Words.{IsUpToEight, word_number}
 use Rattle.iloc_outline.specs.Parts.{word_part, printed_part}
 use Rattle.iloc_outline.specs.Reading.{IsOfWord, role_kind}
@@ -25,35 +33,24 @@ use Rattle.iloc_outline.proofs.SpansLemmas.{not_edited}
 -- a word has a number
 pub word_fits : (r : Role) (p : Text) → IsWord (role_kind r) p → IsUpToEight p
 word_fits roles.Variant p h = variant_fits p h
-word_fits roles.Attribute p h = attribute_fits p h
-word_fits roles.Singleton p h = attribute_fits p h
-word_fits roles.Keyword p h = attribute_fits p h
-word_fits roles.Field p h = attribute_fits p h
+word_fits _ p h = attribute_fits p h
 
 -- a word is printed in lower case
 printed_word : (r : Role) → IsOfWord r → (p : Text) → printed_part (word_part r p) ≡ lower p ∷ []
 printed_word roles.Variant h p = refl
 printed_word roles.Attribute h p = refl
-printed_word roles.Singleton h p = absurd (h tt)
-printed_word roles.Keyword h p = absurd (h tt)
-printed_word roles.Field h p = absurd (h tt)
+printed_word _ h p = absurd (h tt)
 
 -- what passes the test comes first
 pub passing_more : (test : Text → Bool) (ps rest : List Text) → AllByRecursion (λ p. test p ≡ true) ps
     → passing test (ps ++ rest) ≡ ps ++ passing test rest
 passing_more test [] rest h = refl
-passing_more test (p ∷ ps) rest h =
-    ap (λ b. cond b (p ∷ passing test (ps ++ rest)) []) h.0
-    ∙ ap (λ l. p ∷ l) (passing_more test ps rest h.1)
+passing_more test (p ∷ ps) rest h = search (passing_more test ps rest h.1)
 
 -- up to what does not
 pub passing_cut : (test : Text → Bool) (ps rest : List Text) → AllByRecursion (λ p. test p ≡ true) ps
     → EndsBefore test rest → passing test (ps ++ rest) ≡ ps
-passing_cut test ps rest h e = passing_more test ps rest h ∙ ap (λ qs. ps ++ qs) (none rest e) ∙ append-nil ps
-  where
-    none : (rest : List Text) → EndsBefore test rest → passing test rest ≡ []
-    none [] e = refl
-    none (q ∷ rest) e = ap (λ b. cond b (q ∷ passing test rest) []) e
+passing_cut test ps rest h e = grind (arith, passing_more, append-nil)
 
 -- ---- pieces
 
@@ -63,9 +60,7 @@ length-pieces_of l = at_pieces (λ ps. 0 < length ps) (λ p ps. omega arith) (by
 
 pub ends_before : (k : Kind) (l : Cursor) → is_word k (piece_left l) ≡ false
     → EndsBefore (is_word k) (pieces_left l)
-ends_before k l =
-    at_pieces (λ ps. is_word k (first_piece ps) ≡ false → EndsBefore (is_word k) ps) (λ p ps e. e)
-    (bytes_left l)
+ends_before k l = grind (arith, at_pieces)
 
 -- a word that comes first
 pub word_next : (k : Kind) (l : Cursor) → is_word k (piece_left l) ≡ true
@@ -79,16 +74,12 @@ word_next k l =
 -- a short piece after its hyphen
 pub short_piece : (l : Cursor) → IsLater l → IsShortPiece (piece_left l)
     → IsSpanned (whole_text l) (l.at - 1) (l.at + l.piece_length) (piece_left l ∷ [])
-short_piece l later short =
-    let long : l.at + length (piece_left l) ≡ l.at + l.piece_length = omega (arith, length_piece l short) in
-    subst (λ (n : ℕ). IsSpanned (whole_text l) (l.at - 1) n (piece_left l ∷ [])) long
-    (spanned_piece l later)
+short_piece l later short = search (length_piece, spanned_piece)
 
 -- it ends within the text
 pub end_within : (l at : Cursor) (ps : List Text) → IsPast l at ps → IsShortPiece (piece_left at)
     → at.at + at.piece_length ≤ l.at + l.remaining
-end_within l at ps past short =
-    omega (arith, (short_piece at past.later short).inside, length_text at, past.end)
+end_within l at ps past short = grind (arith, short_piece, length_text)
 
 -- the span of a word
 abbrev pub span_of : Role → ℕ → Cursor → Span
@@ -99,10 +90,4 @@ pub word_span : (r : Role) → IsOfWord r → (l : Cursor) → IsLater l →
     IsWord (role_kind r) (piece_left l)
     → (n : ℕ) → n ≡ word_number (piece_left l) →
     IsSpan (whole_text l) (span_of r n l) (word_part r (piece_left l))
-word_span r role l k word n e = record {
-  role = refl;
-  word = e;
-  spanned = short_piece l k (short_kind r (piece_left l) word);
-  same = λ _. printed_word r role (piece_left l);
-  short = not_edited;
-}
+word_span r role l k word n e = search (short_piece, short_kind, printed_word, not_edited)

@@ -1,12 +1,32 @@
 -- Words are passed one after another, and each is put where it belongs.
-use Rattle.std.proofs.Common.{◌≡◌, ◌⊎◌, ◌≤◌, ℕ, Bool, true, false, ◌||◌, List, [], ◌∷◌, ◌++◌, length, map}
-use Rattle.std.proofs.Common.{sym, ap}
-use Rattle.std.proofs.Common.{◌∙◌, refl, subst, arith, inl, inr, length-append, true≢false}
-use Rattle.std.specs.Cmp.{nat_cmp_is, ranked}
+use Rattle.std.proofs.Common.{
+  ◌≡◌,
+  ◌⊎◌,
+  ◌≤◌,
+  ℕ,
+  Bool,
+  true,
+  false,
+  ◌||◌,
+  List,
+  [],
+  ◌∷◌,
+  ◌++◌,
+  length,
+  map,
+  sym,
+  ap,
+  ◌∙◌,
+  refl,
+  subst,
+  arith,
+  inl,
+  inr,
+  length-append,
+  true≢false,
+}
 use Rattle.std.specs.List.{AllByRecursion, list_any}
 use Rattle.std.specs.Ordering.{nat_cmp, eq_by_cmp, is_eq}
-use Rattle.std.specs.declared.cmp.Ordering.{Ordering}
-use Rattle.std.specs.declared.cmp.Ordering.TheVariants.{Less, Equal, Greater}
 use Rattle.std.proofs.lemmas.Bool.{or_cases, or_left, or_right}
 use Rattle.std.proofs.lemmas.List.{length-map, map-append}
 use Rattle.std.proofs.lemmas.List.Folds.{list_any-append}
@@ -17,8 +37,7 @@ use Rattle.iloc_spec_grammar.proofs.ReadingLaws.{keep_all, keep_while_passes}
 use Rattle.iloc_spec_grammar.proofs.ValuesLaws.{all_weaker}
 use Rattle.iloc_outline.specs.Gathering.{Gathers, Walks, pieces_in}
 use Rattle.iloc_spans.specs.Inserting.{IsPutFrom}
-use Rattle.iloc_pieces.specs.Cursor.{IsLater, IsNextPiece, piece_left, pieces_left}
-use Rattle.iloc_pieces.specs.Cursor.{whole_text}
+use Rattle.iloc_pieces.specs.Cursor.{IsLater, IsNextPiece, piece_left, pieces_left, whole_text}
 use Rattle.iloc_pieces.specs.Words.{IsUpToEight, word_number}
 use Rattle.iloc_outline.specs.Parts.{Part, word_part}
 use Rattle.iloc_outline.specs.Reading.{IsOfWord, IsTooMuch, MayBe, ReadsWords, role_kind, words_of}
@@ -31,13 +50,26 @@ use Rattle.iloc_spans.specs.declared.span.Role.{Role}
 use Rattle.iloc_spans.specs.declared.span.Role.TheVariants as roles
 use Rattle.iloc_spans.specs.declared.span.Span.{Span}
 use Rattle.iloc_spans.specs.declared.spans.Spans.{Spans}
-use Rattle.iloc_outline.proofs.GatherLemmas.{gathers_few, gathers_none, gathers_put, gathers_puts}
-use Rattle.iloc_outline.proofs.GatherLemmas.{gathers_there}
+use Rattle.iloc_outline.proofs.GatherLemmas.{
+  gathers_few,
+  gathers_none,
+  gathers_put,
+  gathers_puts,
+  gathers_there,
+}
 use Rattle.iloc_pieces.proofs.CursorLemmas.{last_piece, past_next, past_none, pieces_end}
 use Rattle.iloc_outline.proofs.RoleLemmas.{short_kind}
 use Rattle.iloc_spans.proofs.HeldLemmas.{length-held}
-use Rattle.iloc_outline.proofs.WordLemmas.{ends_before, length-pieces_of, passing_cut, passing_more, span_of}
-use Rattle.iloc_outline.proofs.WordLemmas.{word_fits, word_next, word_span}
+use Rattle.iloc_outline.proofs.WordLemmas.{
+  ends_before,
+  length-pieces_of,
+  passing_cut,
+  passing_more,
+  span_of,
+  word_fits,
+  word_next,
+  word_span,
+}
 use Rattle.iloc_pieces.proofs.WordOrder.{word_order}
 
 -- ---- words differ where their numbers do
@@ -51,44 +83,36 @@ among p (q ∷ ps) h k = λ j. is_eq (word_order p q h k.0 j) || among p ps h k.
 words_differ : (ps : List Text) → AllByRecursion IsUpToEight ps → AllDifferent nat_cmp (map word_number ps)
     → AllDifferent word_cmp (map lower ps)
 words_differ [] k d = tt
-words_differ (p ∷ ps) k d = ((λ a. d.0 (among p ps k.0 k.1 ∙ a)), words_differ ps k.1 d.1)
+words_differ (p ∷ ps) k d = grind (arith, among, words_differ ps k.1 d.1)
 
 numbers_differ : (ps : List Text) → AllByRecursion IsUpToEight ps → AllDifferent word_cmp (map lower ps)
     → AllDifferent nat_cmp (map word_number ps)
 numbers_differ [] k d = tt
-numbers_differ (p ∷ ps) k d = ((λ a. d.0 (sym (among p ps k.0 k.1) ∙ a)), numbers_differ ps k.1 d.1)
+numbers_differ (p ∷ ps) k d = grind (arith, among, numbers_differ ps k.1 d.1)
 
 -- variants whose numbers differ are as they may be
 may_be : (r : Role) (ps : List Text) → AllByRecursion IsUpToEight ps
     → (r ≡ roles.Variant → AllDifferent nat_cmp (map word_number ps)) → MayBe r ps
 may_be roles.Variant ps k d = words_differ ps k (d refl)
-may_be roles.Singleton ps k d = tt
-may_be roles.Attribute ps k d = tt
-may_be roles.Keyword ps k d = tt
-may_be roles.Field ps k d = tt
+may_be _ ps k d = tt
 
 -- ---- one number more
 
 -- equal keys are equal numbers
 equal_keys : (a b : ℕ) → eq_by_cmp nat_cmp a b ≡ true → eq_by_cmp nat_cmp b a ≡ true
-equal_keys a b e = ap is_eq (sym (nat_cmp_is b a Equal (sym (ranked a b Equal (sym (tie (nat_cmp a b) e))))))
-  where
-    tie : (o : Ordering) → is_eq o ≡ true → o ≡ Equal
-    tie Equal p = refl
-    tie Less p = absurd (true≢false (sym p))
-    tie Greater p = absurd (true≢false (sym p))
+equal_keys a b e = grind (arith, true≢false)
 
 different_more : (ks : Text) (k : ℕ) → AllDifferent nat_cmp ks → ¬ (IsAmong nat_cmp k ks)
     → AllDifferent nat_cmp (ks ++ k ∷ [])
 different_more [] k d a = ((λ e. true≢false (sym e)), tt)
-different_more (j ∷ ks) k d a = (
-  (λ e. elim (or_cases _ _ (sym (list_any-append (eq_by_cmp nat_cmp j) ks (k ∷ [])) ∙ e)) [
-    | inl u ↦ d.0 u
-    | inr u ↦ elim (or_cases _ _ u) [
-      | inl v ↦ a (or_left _ _ (equal_keys j k v))
-      | inr v ↦ true≢false (sym v)
-    ]
-  ]),
+different_more (j ∷ ks) k d a = grind (
+  arith,
+  or_cases,
+  list_any-append,
+  or_left,
+  equal_keys,
+  true≢false,
+  or_right,
   different_more ks k d.1 (λ e. a (or_right _ _ e)),
 )
 
@@ -111,13 +135,7 @@ numbers_words r ps = map-map (λ p. p.word) (word_part r) ps
 
 pub walks_none : (r : Role) (l : Cursor) → IsLater l → (s : List Span) (o : Bool) →
     Walks r l l s s 0 o o
-walks_none r l k s o = record {
-  words = [];
-  past = past_none l k;
-  each = tt;
-  gathers = gathers_none (whole_text l) s 0 o;
-  differ = λ e. tt;
-}
+walks_none r l k s o = search (past_none, gathers_none)
 
 -- words that were put in order are read
 walked : (r : Role) (l : Cursor) (ps : List Text) (old new : Spans) (last : ℕ) (o n : Bool)
@@ -144,8 +162,7 @@ module _ (r : Role) (l at : Cursor) (old : Spans) (mid : List Span) (last : ℕ)
       let k = role_kind r in
       let cut = passing_cut (is_word k) w.words (pieces_left at) w.each (ends_before k at none) in
       walked r l w.words old new last o n (sym (ap (words_of r) w.past.pieces ∙ cut)) w.each
-      (subst (λ ss. Gathers (whole_text l) (map (word_part r) w.words) (held_spans old) ss last o n) e
-      w.gathers)
+      (rw e at w.gathers)
       w.differ
 
   -- where there is no room
@@ -172,16 +189,14 @@ module _ (r : Role) (l at : Cursor) (old : Spans) (mid : List Span) (last : ℕ)
 
     span : IsSpan (whole_text l) (span_of r m at) (word_part r (piece_left at))
     span =
-        subst (λ t. IsSpan t (span_of r m at) (word_part r (piece_left at))) w.past.text
-        (word_span r role at w.past.later word m e)
+        rw w.past.text at (word_span r role at w.past.later word m e)
 
     abbrev IsNow : Inserted → Type 0
     IsNow i = IsPutFrom old.count (span_of r m at) mid new last now n k i
 
     counted : (i : Inserted) → IsNow i
         → IsPutFrom (length (held_spans old)) (span_of r m at) mid new last now n k i
-    counted i =
-        subst (λ (q : ℕ). IsPutFrom q (span_of r m at) mid new last now n k i) (sym (length-held old))
+    counted i = search (span_of, length-held)
 
     -- where a number is there, words are not all different
     pub walks_repeat : (i : Inserted) → IsNow i → i ≡ There
@@ -190,17 +205,8 @@ module _ (r : Role) (l at : Cursor) (old : Spans) (mid : List Span) (last : ℕ)
         let g = gathers_there _ parts (held_spans old) mid last o n w.gathers new now k _ _ span
         (counted There (subst IsNow is h)) in
         let eights : AllByRecursion IsUpToEight (words_of r (pieces_left l)) =
-        all_weaker (IsWord (role_kind r)) IsUpToEight (word_fits r) _
-        (keep_while_passes (is_word (role_kind r)) (pieces_left l)) in
-        let next = word_next (role_kind r) at word in
-        not_different (map word_number w.words) (map word_number next.0) (word_number (piece_left at))
-        (subst (IsAmong nat_cmp (word_number (piece_left at))) (numbers_words r w.words) g.1)
-        (subst (AllDifferent nat_cmp)
-        (ap (λ ps. map word_number (words_of r ps)) w.past.pieces
-        ∙ ap (map word_number) (passing_more (is_word (role_kind r)) w.words (pieces_left at) w.each)
-        ∙ map-append word_number w.words (words_of r (pieces_left at))
-        ∙ ap (λ ps. map word_number w.words ++ map word_number ps) next.1)
-        (numbers_differ (words_of r (pieces_left l)) eights d))
+        grind (arith, all_weaker, word_fits, keep_while_passes) in
+        grind (arith, word_next, not_different, numbers_words, passing_more, map-append, numbers_differ)
 
     each_more : AllByRecursion (IsWord (role_kind r)) more
     each_more = all_append (IsWord (role_kind r)) w.words (piece_left at ∷ []) w.each (word, tt)
@@ -212,8 +218,7 @@ module _ (r : Role) (l at : Cursor) (old : Spans) (mid : List Span) (last : ℕ)
     module _ (i : Inserted) (h : IsNow i) (may : IsKept r i) where
       gathered : Gathers (whole_text l) (map (word_part r) more) (held_spans old) new now o k
       gathered =
-          subst (λ ps. Gathers (whole_text l) ps (held_spans old) new now o k)
-          (sym (map-append (word_part r) w.words (piece_left at ∷ []))) (elim may [
+          rw (map-append (word_part r) w.words (piece_left at ∷ [])) (elim may [
             | inl is ↦
                 (gathers_put _ parts (held_spans old) mid last o n w.gathers new now k _ _ span
                 (counted Put (subst IsNow is h))).0
@@ -227,22 +232,13 @@ module _ (r : Role) (l at : Cursor) (old : Spans) (mid : List Span) (last : ℕ)
         | inl is ↦
             let g = gathers_put _ parts (held_spans old) mid last o n w.gathers new now k _ _ span
             (counted Put (subst IsNow is h)) in
-            subst (AllDifferent nat_cmp) numbers_more
-            (different_more (map word_number w.words) (word_number (piece_left at)) (w.differ v)
-            (λ a. g.1 (subst (IsAmong nat_cmp (word_number (piece_left at)))
-            (sym (numbers_words r w.words)) a)))
+            grind (arith, numbers_more, different_more, numbers_words)
         | inr b ↦ absurd (b.1 v)
       ]
 
       -- one word more
       pub walks_more : (next : Cursor) → IsNextPiece at next → Walks r l next (held_spans old) new now o k
-      walks_more next k = record {
-        words = more;
-        past = past_next w.past (short_kind r (piece_left at) word) k;
-        each = each_more;
-        gathers = gathered;
-        differ = differ_more;
-      }
+      walks_more next k = search (past_next, short_kind, each_more, gathered, differ_more)
 
       -- the last one
       pub walks_end : (then : Spans) → new ≡ held_spans then → at.piece_length ≡ at.remaining
@@ -254,6 +250,5 @@ module _ (r : Role) (l at : Cursor) (old : Spans) (mid : List Span) (last : ℕ)
           (walked r l more old then now o k
           (sym (ap (words_of r) all ∙ keep_all (is_word (role_kind r)) more each_more))
           each_more
-          (subst (λ ss. Gathers (whole_text l) (map (word_part r) more) (held_spans old) ss now o k) s
-          gathered)
+          (rw s at gathered)
           differ_more)

@@ -1,19 +1,49 @@
 -- The laws of steps between texts, one and any number, by those of the tree.
-use Rattle.std.proofs.Common.{◌≡◌, ◌↔◌, inl, inr, ℕ, zero, suc, ◌≤◌, false, List, [], ◌∷◌, length, refl}
-use Rattle.std.proofs.Common.{sym, ap, ◌∙◌, subst, ◌==◌, le_of_eq, le_trans}
-use Rattle.std.specs.Char.{to_ascii_lowercase}
+use Rattle.std.proofs.Common.{arith, ◌≡◌, ◌↔◌, inl, inr, ℕ, zero, suc, ◌≤◌, false, List, [], ◌∷◌, length, refl}
+use Rattle.std.proofs.Common.{sym, ap, ◌∙◌, ◌==◌, le_of_eq, le_trans}
 use Rattle.std.specs.List.{AllByRecursion}
 use Rattle.std.proofs.lemmas.Bool.{cases_Bool, cond_both, both_ways}
-use Rattle.iloc_spec_grammar.specs.Syntax.{LanguageLengths, Block, code_x, Text, pieces, join, lower}
-use Rattle.iloc_spec_grammar.specs.Syntax.{AreLengths, SpelledIdentifier, Identifier}
-use Rattle.iloc_spec_grammar.specs.Syntax.{identifier_pieces, lower_singleton, is_one_byte, blocks}
-use Rattle.iloc_spec_grammar.specs.Syntax.{head, tail_blocks}
-use Rattle.iloc_spec_grammar.specs.Meaning.{Locale, Means, IdentifierMeans, SpellsIdentifier}
-use Rattle.iloc_spec_grammar.specs.Meaning.{normal_identifier}
-use Rattle.iloc_spec_grammar.specs.Tree.{Extension, Written, extension_pieces, spelling, IsWritten, meaning}
-use Rattle.iloc_spec_grammar.specs.Tree.{tree_text}
-use Rattle.iloc_spec_grammar.specs.Values.{text, lower_identifier, identifier_text, TextStep}
-use Rattle.iloc_spec_grammar.specs.Values.{IdentifierTextStep, Leads, LeadToOne}
+use Rattle.iloc_spec_grammar.specs.Syntax.{
+  LanguageLengths,
+  Block,
+  code_x,
+  Text,
+  pieces,
+  join,
+  lower,
+  AreLengths,
+  Identifier,
+  identifier_pieces,
+  lower_singleton,
+  is_one_byte,
+  blocks,
+  head,
+  tail_blocks,
+}
+use Rattle.iloc_spec_grammar.specs.Meaning.{
+  Locale,
+  Means,
+  IdentifierMeans,
+  SpellsIdentifier,
+  normal_identifier,
+}
+use Rattle.iloc_spec_grammar.specs.Tree.{
+  Extension,
+  Written,
+  extension_pieces,
+  spelling,
+  IsWritten,
+  meaning,
+  tree_text,
+}
+use Rattle.iloc_spec_grammar.specs.Values.{
+  text,
+  identifier_text,
+  TextStep,
+  IdentifierTextStep,
+  Leads,
+  LeadToOne,
+}
 use Rattle.iloc_spec_grammar.specs.TreeSteps.{Step, TreeIdentifierTextStep}
 use Rattle.iloc_spec_grammar.specs.Reading.{written_of, extensions_in}
 use Rattle.iloc_spec_grammar.proofs.PiecesLaws.{join-pieces}
@@ -24,17 +54,29 @@ use Rattle.iloc_spec_grammar.proofs.FaultLaws.{AreGood, good_written, pieces-wri
 use Rattle.iloc_spec_grammar.proofs.StepLaws.{identifier_step, written_step}
 use Rattle.iloc_spec_grammar.proofs.StepSizes.{step_pieces, extension_passes}
 use Rattle.iloc_spec_grammar.proofs.CaseLaws as tree
-use Rattle.iloc_spec_grammar.proofs.IdentifierTexts.{identifier_text_step_means, identifier_text_step_length}
-use Rattle.iloc_spec_grammar.proofs.IdentifierTexts.{lower-identifier_text}
+use Rattle.iloc_spec_grammar.proofs.IdentifierTexts.{
+  identifier_text_step_means,
+  identifier_text_step_length,
+  lower-identifier_text,
+}
 use Rattle.iloc_spec_grammar.proofs.Canonical.{sort_identifier, identifier_order_step, canonical_identifier}
 use Rattle.iloc_spec_grammar.proofs.Chains.{Steps, seven_steps}
 use Rattle.iloc_spec_grammar.proofs.IdentifierLaws as laws
 use Rattle.iloc_spec_grammar.proofs.BlockLaws.{one_by_blocks, read_by_blocks}
-use Rattle.iloc_spec_grammar.proofs.SameMeaning.{good_blocks, means_by_blocks, tree_means, means_by_tree}
-use Rattle.iloc_spec_grammar.proofs.SameMeaning.{one_meaning}
+use Rattle.iloc_spec_grammar.proofs.SameMeaning.{
+  good_blocks,
+  means_by_blocks,
+  tree_means,
+  means_by_tree,
+  one_meaning,
+}
 use Rattle.iloc_spec_grammar.proofs.SameText.{text_is}
-use Rattle.iloc_spec_grammar.proofs.SameSteps.{tree_step, spelled_step, tree_identifier_step}
-use Rattle.iloc_spec_grammar.proofs.SameSteps.{identifier_step_by_tree}
+use Rattle.iloc_spec_grammar.proofs.SameSteps.{
+  tree_step,
+  spelled_step,
+  tree_identifier_step,
+  identifier_step_by_tree,
+}
 use Rattle.iloc_spec_grammar.proofs.ReadingLaws.{front_long}
 
 -- one step
@@ -51,8 +93,8 @@ text_step_length T t u s = tree.text_step_length T t u (tree_step t u s)
 
 pub chain_means : (T : LanguageLengths) → AreLengths T → (n : ℕ) (t u : Text) (M : Locale) →
     Leads (TextStep T) n t u → Means T t M → Means T u M
-chain_means T table zero t u M c m = subst (λ (s : Text). Means T s M) c m
-chain_means T table (suc n) t u M (inl e) m = subst (λ (s : Text). Means T s M) e m
+chain_means T table zero t u M c m = rw c at m
+chain_means T table (suc n) t u M (inl e) m = rw e at m
 chain_means T table (suc n) t u M (inr c) m =
     chain_means T table n c.0 u M c.2 (text_step_means T table t c.0 M c.1 m)
 
@@ -69,8 +111,7 @@ IsLongBlock b = (lower_singleton b == code_x) ≡ false → AllByRecursion IsLon
 blocks_long : (ps : List Text) → AllByRecursion IsLongBlock (blocks ps)
 blocks_long [] = tt
 blocks_long ([] ∷ ps) = blocks_long ps
-blocks_long ((c ∷ []) ∷ ps) = cond_both (to_ascii_lowercase c == code_x) _ _ (AllByRecursion IsLongBlock)
-    (λ e. (λ n. absurd (both_ways _ n e), tt)) (λ e. (λ n. front_long ps, blocks_long ps))
+blocks_long ((c ∷ []) ∷ ps) = grind (arith, cond_both, both_ways, front_long, blocks_long ps)
 blocks_long ((c ∷ d ∷ p) ∷ ps) = blocks_long ps
 
 tail_long : (ps : List Text) → AllByRecursion IsLongBlock (tail_blocks ps)
@@ -79,17 +120,7 @@ tail_long (p ∷ ps) = blocks_long ps
 
 read_long : (bs : List Block) → AllByRecursion IsLongBlock bs → AreLong (extensions_in bs)
 read_long [] h = tt
-read_long (b ∷ bs) h = elim (cases_Bool (lower_singleton b == code_x)) [
-  | inl t ↦ rw t tt
-  | inr t ↦ rw t (
-    subst (AllByRecursion IsLong) (sym (pieces-extension_of (lower_singleton b) b.1)) (h.0 t),
-    read_long bs h.1,
-  )
-]
-
-written_long : (ps : List Text) → AreLong (written_of ps).extensions
-unfolding written_of
-written_long ps = read_long (tail_blocks ps) (tail_long ps)
+read_long (b ∷ bs) h = grind (arith, cases_Bool, pieces-extension_of, read_long bs h.1)
 
 step_long : {v w : Written} → Step v w → AreLong v.extensions → AreLong w.extensions
 step_long (Step.block_order r) h = all_reordered _ r h
@@ -102,20 +133,20 @@ step_long (Step.inside r {es = es} {fs = fs} s z) h =
 walk : (T : LanguageLengths) (n : ℕ) (t : Text) (v w : Written) → IsWritten T v → pieces t ≡ spelling v →
     AreLong v.extensions → Steps n v w → (u : Text) → lower (join (spelling w)) ≡ lower u →
     Leads (TextStep T) (suc n) t u
-walk T zero t v w h e l s u k =
-    inr (u, TextStep.letter_case (ap lower (sym (join-pieces t) ∙ ap join (e ∙ ap spelling s)) ∙ k), refl)
+walk T zero t v w h e l s u k = grind (arith, join-pieces)
 walk T (suc n) t v w h e l s u k =
     let after = (written_step T s.1 h).0 in
     let long = step_long s.1 l in
     inr (
       join (spelling s.0),
-      spelled_step t h e (blocks-spelling-long v h l) (blocks-spelling-long s.0 after long) s.1,
+      search (spelled_step, blocks-spelling-long),
       walk T n (join (spelling s.0)) s.0 w after (step_pieces t e s.1) long s.2 u k,
     )
 
 -- at most eight steps lead from each accepted text to the printed text of its meaning
 pub chain_to_text : (T : LanguageLengths) (t : Text) (M : Locale) → Means T t M →
     Leads (TextStep T) 8 t (text M)
+unfolding written_of
 chain_to_text T t M m =
     let w = written_of (pieces t) in
     let id : SpellsIdentifier T (head (pieces t)) = (m.id.written, m.id.grammatical, m.id.spelled) in
@@ -124,7 +155,7 @@ chain_to_text T t M m =
     let s = seven_steps T w h in
     let same : meaning w ≡ M =
     one_by_blocks T t (meaning w) M (read_by_blocks T t id good) (means_by_blocks t M m) in
-    walk T 7 t w s.end h (pieces-written_of t) (written_long (pieces t)) s.steps (text M)
+    walk T 7 t w s.end h (pieces-written_of t) (search (read_long, tail_long)) s.steps (text M)
     (s.same ∙ ap (λ N. lower (tree_text N)) same ∙ ap lower (sym (text_is M)))
 
 -- no text of a meaning is shorter than the printed one
@@ -139,7 +170,7 @@ texts_lead_to_one T table t u L M a b = (
   λ e. record {
     end = text L;
     first = chain_to_text T t L a;
-    second = subst (λ (N : Locale). Leads (TextStep T) 8 u (text N)) (sym e) (chain_to_text T u M b);
+    second = rw e (chain_to_text T u M b);
   },
   λ l. one_meaning table l.end L M (chain_means T table 8 t l.end L l.first a)
       (chain_means T table 8 u l.end M l.second b),
@@ -165,10 +196,10 @@ identifier_step_length T t u s = identifier_text_step_length T t u (tree_identif
 
 pub identifier_chain_means : (T : LanguageLengths) (n : ℕ) (t u : Text) (i : Identifier) →
     Leads (IdentifierTextStep T) n t u → IdentifierMeans T (pieces t) i → IdentifierMeans T (pieces u) i
-identifier_chain_means T zero t u i c m = subst (λ (s : Text). IdentifierMeans T (pieces s) i) c m
-identifier_chain_means T (suc n) t u i (inl e) m = subst (λ (s : Text). IdentifierMeans T (pieces s) i) e m
+identifier_chain_means T zero t u i c m = grind arith
+identifier_chain_means T (suc n) t u i (inl e) m = grind arith
 identifier_chain_means T (suc n) t u i (inr c) m =
-    identifier_chain_means T n c.0 u i c.2 (identifier_step_means T t c.0 i c.1 m)
+    search (identifier_step_means, identifier_chain_means T n c.0 u)
 
 pub identifier_chain_length : (T : LanguageLengths) (n : ℕ) (t u : Text) →
     Leads (IdentifierTextStep T) n t u →
@@ -189,10 +220,12 @@ identifier_chain_to_text T t i m =
     let sorted : normal_identifier w ≡ i =
     (identifier_step (identifier_order_step v) m.grammatical).1 ∙ sym m.means in
     let case : lower (join (identifier_pieces w)) ≡ lower (identifier_text i) =
-    lower-identifier_text w
-    ∙ ap (λ (j : SpelledIdentifier). join (identifier_pieces j))
-    (sym (canonical_identifier v m.grammatical.different) ∙ ap lower_identifier sorted)
-    ∙ sym (lower-identifier_text i) in
+    cc (
+      lower-identifier_text w,
+      canonical_identifier v m.grammatical.different,
+      sorted,
+      lower-identifier_text i,
+    ) in
     inr (
       join (identifier_pieces w),
       identifier_step_by_tree t (join (identifier_pieces w))
@@ -204,8 +237,7 @@ identifier_chain_to_text T t i m =
 pub length-identifier_means : (T : LanguageLengths) (t : Text) (i : Identifier) →
     IdentifierMeans T (pieces t) i →
     length (identifier_text i) ≡ length t
-length-identifier_means T t i m =
-    identifier_chain_length T 2 t (identifier_text i) (identifier_chain_to_text T t i m)
+length-identifier_means T t i m = search (identifier_chain_length, identifier_chain_to_text)
 
 pub identifiers_lead_to_one : (T : LanguageLengths) (t u : Text) (i j : Identifier) →
     IdentifierMeans T (pieces t) i → IdentifierMeans T (pieces u) j →
@@ -214,8 +246,7 @@ identifiers_lead_to_one T t u i j m n = (
   λ e. record {
     end = identifier_text i;
     first = identifier_chain_to_text T t i m;
-    second = subst (λ (k : Identifier). Leads (IdentifierTextStep T) 2 u (identifier_text k)) (sym e)
-        (identifier_chain_to_text T u j n);
+    second = rw e (identifier_chain_to_text T u j n);
   },
   λ l. laws.one_meaning (pieces l.end) i j (identifier_chain_means T 2 t l.end i l.first m)
       (identifier_chain_means T 2 u l.end j l.second n),

@@ -1,32 +1,131 @@
 -- A text means a value block by block as its tree does.
-use Rattle.std.proofs.Common.{◌≡◌, ◌≢◌, ◌⊎◌, inl, inr, ℕ, Bool, true, false, cond, List, [], ◌∷◌, ◌++◌, map}
-use Rattle.std.proofs.Common.{filter_map, refl, sym, ap, ◌∙◌, subst, arith, Option, Some, None, IfSome}
-use Rattle.std.proofs.Common.{option_map, option_to_list, true≢false}
+use Rattle.std.proofs.Common.{
+  ◌≡◌,
+  ◌≢◌,
+  ◌⊎◌,
+  inr,
+  ℕ,
+  Bool,
+  true,
+  false,
+  cond,
+  List,
+  [],
+  ◌∷◌,
+  ◌++◌,
+  map,
+  filter_map,
+  refl,
+  sym,
+  ap,
+  ◌∙◌,
+  subst,
+  arith,
+  Option,
+  Some,
+  None,
+  IfSome,
+  option_map,
+  option_to_list,
+  true≢false,
+}
 use Rattle.std.specs.List.{AllByRecursion, list_any}
 use Rattle.std.specs.Ordering.{nat_cmp, eq_by_cmp}
 use Rattle.std.specs.FinMap.{find}
 use Rattle.std.proofs.lemmas.Bool.{or_parts, false_from_ne_true}
-use Rattle.iloc_spec_grammar.specs.Syntax.{LanguageLengths, Block, code_x, code_u, code_t, Text, pieces}
-use Rattle.iloc_spec_grammar.specs.Syntax.{AreLengths, lower, Unicode, Transform, IsOther, kept}
-use Rattle.iloc_spec_grammar.specs.Syntax.{is_other_singleton, lower_singleton, AllDifferent, head}
-use Rattle.iloc_spec_grammar.specs.Syntax.{tail_blocks, IsPrivate}
-use Rattle.iloc_spec_grammar.specs.Tree.{Extension, unicode, transform, other, Written, extension_pieces}
-use Rattle.iloc_spec_grammar.specs.Tree.{extension_block, blocks_of, IsExtension, IsWritten, TreeMeans}
-use Rattle.iloc_spec_grammar.specs.Tree.{meaning, extensions_meaning, unicode_part, transform_part}
-use Rattle.iloc_spec_grammar.specs.Tree.{private_part, other_part, by_singleton, IsBlock, HasSingleton}
-use Rattle.iloc_spec_grammar.specs.Meaning.{Locale, Extensions, SpellsIdentifier, map_of, no_unicode}
-use Rattle.iloc_spec_grammar.specs.Meaning.{no_transform, normal_unicode, normal_transform}
-use Rattle.iloc_spec_grammar.specs.ByBlocks.{UnicodeMeans, TransformMeans, PrivateMeans, OtherMeans}
-use Rattle.iloc_spec_grammar.specs.ByBlocks.{grammar_rules, PartIs, BlocksGive, MeansByBlocks}
-use Rattle.iloc_spec_grammar.specs.Meaning.{other_blocks}
-use Rattle.iloc_spec_grammar.proofs.Readings.{head-spelling, blocks-spelling, unicode_of-pieces}
-use Rattle.iloc_spec_grammar.proofs.Readings.{transform_of-pieces}
-use Rattle.iloc_spec_grammar.specs.Reading.{unicode_of, transform_of, written_of}
+use Rattle.iloc_spec_grammar.specs.Syntax.{
+  LanguageLengths,
+  Block,
+  code_x,
+  code_u,
+  code_t,
+  Text,
+  pieces,
+  AreLengths,
+  Unicode,
+  Transform,
+  IsOther,
+  kept,
+  is_other_singleton,
+  lower_singleton,
+  AllDifferent,
+  head,
+  tail_blocks,
+  IsPrivate,
+}
+use Rattle.iloc_spec_grammar.specs.Tree.{
+  Extension,
+  unicode,
+  transform,
+  other,
+  Written,
+  extension_pieces,
+  extension_block,
+  blocks_of,
+  IsExtension,
+  IsWritten,
+  TreeMeans,
+  meaning,
+  extensions_meaning,
+  unicode_part,
+  transform_part,
+  private_part,
+  other_part,
+  by_singleton,
+  IsBlock,
+  HasSingleton,
+}
+use Rattle.iloc_spec_grammar.specs.Meaning.{
+  Locale,
+  Extensions,
+  SpellsIdentifier,
+  map_of,
+  no_unicode,
+  no_transform,
+  normal_unicode,
+  other_blocks,
+}
+use Rattle.iloc_spec_grammar.specs.ByBlocks.{
+  UnicodeMeans,
+  TransformMeans,
+  PrivateMeans,
+  OtherMeans,
+  grammar_rules,
+  PartIs,
+  BlocksGive,
+  MeansByBlocks,
+}
+use Rattle.iloc_spec_grammar.proofs.Readings.{
+  head-spelling,
+  blocks-spelling,
+  unicode_of-pieces,
+  transform_of-pieces,
+}
+use Rattle.iloc_spec_grammar.specs.Reading.{unicode_of, written_of}
 use Rattle.iloc_spec_grammar.proofs.IdentifierLaws.{one_meaning}
-use Rattle.iloc_spec_grammar.proofs.FaultLaws.{AreGood, good_means, good_from, block_rules, different_by}
-use Rattle.iloc_spec_grammar.proofs.FaultLaws.{good_written, pieces-written_of, blocks_read}
-use Rattle.iloc_spec_grammar.proofs.Singletons.{tied, untied, self_tied, IsKind, of_u, of_t, of_x, another}
-use Rattle.iloc_spec_grammar.proofs.Singletons.{kind_of, lower_letter, find_holds}
+use Rattle.iloc_spec_grammar.proofs.FaultLaws.{
+  AreGood,
+  good_means,
+  good_from,
+  block_rules,
+  different_by,
+  good_written,
+  pieces-written_of,
+  blocks_read,
+}
+use Rattle.iloc_spec_grammar.proofs.Singletons.{
+  tied,
+  untied,
+  self_tied,
+  IsKind,
+  of_u,
+  of_t,
+  of_x,
+  another,
+  kind_of,
+  lower_letter,
+  find_holds,
+}
 use Rattle.iloc_spec_grammar.proofs.General.{all_of}
 use Rattle.iloc_spec_grammar.proofs.ValuesLaws.{all_weaker, all_both}
 
@@ -42,21 +141,13 @@ find_block : (q : ℕ) (es : List (ℕ × Extension)) (x : Option Block) →
     (find nat_cmp q (by_singleton (option_to_list x)))
 unfolding or_else
 find_block q [] x = refl
-find_block q (e ∷ es) x =
-    ap (cond (eq_by_cmp nat_cmp q (lower_singleton e)) (Some (extension_pieces e.1))) (find_block q es x)
-    ∙ elim (eq_by_cmp nat_cmp q (lower_singleton e))
-    as (λ b. cond b (Some (extension_pieces e.1))
-    (or_else (option_map extension_pieces (find nat_cmp q (by_singleton es)))
-    (find nat_cmp q (by_singleton (option_to_list x))))
-    ≡ or_else (option_map extension_pieces (cond b (Some e.1) (find nat_cmp q (by_singleton es))))
-    (find nat_cmp q (by_singleton (option_to_list x)))) [ true ↦ refl | false ↦ refl ]
+find_block q (e ∷ es) x = grind (arith, or_else, find_block q es x)
 
 no_private : (q : ℕ) → q ≢ code_x → (x : Option Block) →
     IfSome x (λ e. (lower_singleton e ≡ code_x) × IsPrivate e.1) →
     find nat_cmp q (by_singleton (option_to_list x)) ≡ None
 no_private q n None h = refl
-no_private q n (Some b) h =
-    ap (λ t. cond t (Some b.1) None) (untied q (lower_singleton b) (λ e. n (sym e ∙ h.0)))
+no_private q n (Some b) h = grind (arith, untied)
 
 -- what is found gives its part
 
@@ -64,21 +155,19 @@ unicode_by : (T : LanguageLengths) (o : Option Extension) → IfSome o (IsExtens
     (p : Option (List Text)) → p ≡ None →
     PartIs UnicodeMeans no_unicode (or_else (option_map extension_pieces o) p) (unicode_part o)
 unfolding or_else
-unicode_by T None h p e = subst (λ p. PartIs UnicodeMeans no_unicode p no_unicode) (sym e) refl
-unicode_by T (Some (unicode u)) h p e =
-    record { written = u; grammatical = h.1; spelled = refl; means = refl }
+unicode_by T None h p e = grind arith
+unicode_by T (Some (unicode u)) h p e = search
 unicode_by T (Some (transform m)) h p e = absurd (let k = h.0 in omega arith)
-unicode_by T (Some (other ps)) h p e = absurd (true≢false (sym h.0))
+unicode_by T (Some (other ps)) h p e = cc
 
 transform_by : (T : LanguageLengths) (o : Option Extension) → IfSome o (IsExtension T code_t) →
     (p : Option (List Text)) → p ≡ None →
     PartIs (TransformMeans T) no_transform (or_else (option_map extension_pieces o) p) (transform_part o)
 unfolding or_else
-transform_by T None h p e = subst (λ p. PartIs (TransformMeans T) no_transform p no_transform) (sym e) refl
-transform_by T (Some (transform m)) h p e =
-    record { written = m; grammatical = h.1; spelled = refl; means = refl }
+transform_by T None h p e = grind arith
+transform_by T (Some (transform m)) h p e = search
 transform_by T (Some (unicode u)) h p e = absurd (let k = h.0 in omega arith)
-transform_by T (Some (other ps)) h p e = absurd (true≢false (sym h.0))
+transform_by T (Some (other ps)) h p e = cc
 
 private_by : (T : LanguageLengths) (o : Option Extension) → IfSome o (IsExtension T code_x) →
     (x : Option Block) → IfSome x (λ e. (lower_singleton e ≡ code_x) × IsPrivate e.1) →
@@ -87,11 +176,8 @@ private_by : (T : LanguageLengths) (o : Option Extension) → IfSome o (IsExtens
     (private_part x)
 unfolding or_else
 private_by T None h None k = refl
-private_by T None h (Some b) k =
-    subst
-    (λ (c : ℕ). PartIs PrivateMeans [] (cond (eq_by_cmp nat_cmp code_x c) (Some b.1) None) (map lower b.1))
-    (sym k.0) (k.1, refl)
-private_by T (Some (other ps)) h x k = absurd (true≢false (sym h.0))
+private_by T None h (Some b) k = grind arith
+private_by T (Some (other ps)) h x k = cc
 private_by T _ h x k = absurd (let k = h.0 in omega arith)
 
 -- the others
@@ -106,7 +192,7 @@ no_others_private : (x : Option Block) →
     IfSome x (λ e. (lower_singleton e ≡ code_x) × IsPrivate e.1) →
     other_blocks (option_to_list x) ≡ []
 no_others_private None h = refl
-no_others_private (Some b) h = ap (λ c. cond (is_other_singleton c) ((lower_singleton b, b.1) ∷ []) []) h.0
+no_others_private (Some b) h = cc
 
 others_by : (T : LanguageLengths) (es : List (ℕ × Extension)) (x : Option Block) →
     AllByRecursion (λ e. IsExtension T (lower_singleton e) e.1) es →
@@ -114,29 +200,8 @@ others_by : (T : LanguageLengths) (es : List (ℕ × Extension)) (x : Option Blo
     (filter_map other_part (by_singleton es)
     ≡ map kept_of (other_blocks (map extension_block es ++ option_to_list x)))
     × AllByRecursion KeepsWords (other_blocks (map extension_block es ++ option_to_list x))
-others_by T [] x h k = (
-  ap (map kept_of) (sym (no_others_private x k)),
-  subst (AllByRecursion KeepsWords) (sym (no_others_private x k)) tt,
-)
-others_by T (e ∷ es) x h k = at_kind e.1 h.0 (others_by T es x h.1 k)
-  where
-    Goal : Extension → Type 0
-    Goal f = (filter_map other_part ((lower_singleton e, f) ∷ by_singleton es)
-        ≡ map kept_of (other_blocks
-        ((e.0, extension_pieces f) ∷ map extension_block es ++ option_to_list x)))
-        × AllByRecursion KeepsWords (other_blocks
-        ((e.0, extension_pieces f) ∷ map extension_block es ++ option_to_list x))
-
-    at_kind : (f : Extension) → IsExtension T (lower_singleton e) f →
-        (filter_map other_part (by_singleton es)
-        ≡ map kept_of (other_blocks (map extension_block es ++ option_to_list x)))
-        × AllByRecursion KeepsWords
-        (other_blocks (map extension_block es ++ option_to_list x)) →
-        Goal f
-    at_kind (unicode u) r rest = rw r.0 rest
-    at_kind (transform m) r rest = rw r.0 rest
-    at_kind (other ps) r rest =
-        rw r.0 (ap (λ l. (lower_singleton e, kept ps) ∷ l) rest.0, ((r.1, refl), rest.1))
+others_by T [] x h k = search no_others_private
+others_by T (e ∷ es) x h k = grind (arith, others_by T es x h.1 k)
 
 pub blocks_give : (T : LanguageLengths) (w : Written) → IsWritten T w →
     BlocksGive (grammar_rules T) (blocks_of w) (extensions_meaning w)
@@ -145,18 +210,15 @@ blocks_give T w h =
       letters = all_weaker (λ b. HasSingleton b × IsBlock T b) (λ b. HasSingleton b) (λ b k. k.0) _
           (block_rules T w.extensions w.private h.extensions h.private);
       different = different_by T w.extensions w.private h.extensions h.different h.private;
-      unicode = subst (λ o. PartIs UnicodeMeans no_unicode o (extensions_meaning w).unicode)
-          (sym (find_block code_u w.extensions w.private))
+      unicode = rw (find_block code_u w.extensions w.private)
           (unicode_by T (find nat_cmp code_u (by_singleton w.extensions))
           (find_holds (IsExtension T) code_u w.extensions h.extensions) _
           (no_private code_u (λ e. absurd (omega arith)) w.private h.private));
-      transform = subst (λ o. PartIs (TransformMeans T) no_transform o (extensions_meaning w).transform)
-          (sym (find_block code_t w.extensions w.private))
+      transform = rw (find_block code_t w.extensions w.private)
           (transform_by T (find nat_cmp code_t (by_singleton w.extensions))
           (find_holds (IsExtension T) code_t w.extensions h.extensions) _
           (no_private code_t (λ e. absurd (omega arith)) w.private h.private));
-      private = subst (λ o. PartIs PrivateMeans [] o (extensions_meaning w).private)
-          (sym (find_block code_x w.extensions w.private))
+      private = rw (find_block code_x w.extensions w.private)
           (private_by T (find nat_cmp code_x (by_singleton w.extensions))
           (find_holds (IsExtension T) code_x w.extensions h.extensions) w.private h.private);
       each_other = o.1;
@@ -166,15 +228,9 @@ blocks_give T w h =
 pub tree_by_blocks : (T : LanguageLengths) → AreLengths T → (t : Text) (M : Locale) → TreeMeans T t M →
     MeansByBlocks T t M
 tree_by_blocks T table t M m = subst (MeansByBlocks T t) (sym m.means) (record {
-  id = record {
-    written = m.written.id;
-    grammatical = m.grammatical.id;
-    spelled = ap head m.spelled ∙ head-spelling m.written m.grammatical;
-    means = refl;
-  };
-  extensions = subst (λ bs. BlocksGive (grammar_rules T) bs (extensions_meaning m.written))
-      (sym (ap tail_blocks m.spelled ∙ blocks-spelling table m.written m.grammatical))
-      (blocks_give T m.written m.grammatical);
+  id = grind (arith, head-spelling);
+  extensions = rw (sym (ap tail_blocks m.spelled ∙ blocks-spelling table m.written m.grammatical))
+      at (blocks_give T m.written m.grammatical);
 })
 
 -- and back: each block follows its rule
@@ -192,8 +248,7 @@ find_later P q b bs d h =
     IfSome (find nat_cmp q (by_singleton bs)) P) [
       | true ↦ λ t h. subst (λ (o : Option (List Text)). IfSome o P)
           (sym (none_found bs
-          (subst (λ (c : ℕ). list_any (eq_by_cmp nat_cmp c) (map (λ b. lower_singleton b) bs) ≡ false)
-          (tied q (lower_singleton b) t) d))) tt
+          (grind (arith, tied)))) tt
       | false ↦ λ t h. h
     ]) refl h
   where
@@ -209,12 +264,14 @@ each_block : (P : ℕ → List Text → Type 0) (bs : List Block) →
     ((q : ℕ) → IfSome (find nat_cmp q (by_singleton bs)) (P q)) →
     AllByRecursion (λ b. P (lower_singleton b) b.1) bs
 each_block P [] d f = tt
-each_block P (b ∷ bs) d f = (
-  subst (λ (t : Bool).
-      IfSome (cond t (Some b.1) (find nat_cmp (lower_singleton b) (by_singleton bs))) (P (lower_singleton b)))
-      (self_tied (lower_singleton b)) (f (lower_singleton b)),
-  each_block P bs d.1 (λ q. find_later (P q) q b bs (false_from_ne_true _ d.0) (f q)),
-)
+each_block P (b ∷ bs) d f =
+    grind (
+      arith,
+      self_tied,
+      find_later,
+      false_from_ne_true,
+      each_block P bs d.1 (λ q. find_later (P q) q b bs (false_from_ne_true _ d.0) (f q)),
+    )
 
 -- only the rule of its singleton
 abbrev KnownAt : (ℕ → Bool) → ℕ → List Text → Type 0
@@ -228,15 +285,7 @@ part_rule T q R f empty (Some ps) v h = f ps v h
 
 known : (T : LanguageLengths) (q : ℕ) (f : ℕ → Option (List Text)) → IfSome (f code_u) (RuleAt T code_u) →
     IfSome (f code_t) (RuleAt T code_t) → IfSome (f code_x) (RuleAt T code_x) → IfSome (f q) (KnownAt T q)
-known T q f u t x = both (f q) (at q code_u u) (at q code_t t) (at q code_x x)
-  where
-    at : (q k : ℕ) → IfSome (f k) (RuleAt T k) → q ≡ k → IfSome (f q) (RuleAt T q)
-    at q k h e = subst (λ (c : ℕ). IfSome (f c) (RuleAt T c)) (sym e) h
-
-    both : (o : Option (List Text)) → (q ≡ code_u → IfSome o (RuleAt T q)) →
-        (q ≡ code_t → IfSome o (RuleAt T q)) → (q ≡ code_x → IfSome o (RuleAt T q)) → IfSome o (KnownAt T q)
-    both None a b c = tt
-    both (Some ps) a b c = (a, b, c)
+known T q f u t x = grind arith
 
 others_each : (bs : List Block) → AllByRecursion KeepsWords (other_blocks bs) →
     AllByRecursion (λ b. is_other_singleton (lower_singleton b) ≡ true → IsOther b.1) bs
@@ -267,11 +316,11 @@ blocks_good T bs e m =
     (part_rule T code_t (TransformMeans T)
     (λ ps v h. inr (transform h.written, (refl, h.grammatical), h.spelled)) no_transform _ e.transform
     m.transform)
-    (part_rule T code_x PrivateMeans (λ ps v h. inl (refl, h.0)) [] _ e.private m.private)) in
+    (grind (arith, part_rule))) in
     let rules = all_both _ _ bs m.letters (all_both _ _ bs known_each (others_each bs m.each_other)) in
     good_from T [] bs
     (all_weaker _ (λ b. HasSingleton b × IsBlock T b)
-    (λ b k. (k.0, rule_of T b k.1.0 k.1.1 (kind_of (lower_singleton b) (lower_letter b.0 k.0)))) bs rules)
+    (λ b k. search (rule_of, kind_of, lower_letter)) bs rules)
     m.different (all_of _ (λ b. refl) bs)
 
 -- one value
@@ -290,10 +339,7 @@ one_unicode ps u v a b = a.means
 
 one_transform : (T : LanguageLengths) (ps : List Text) (m n : Transform) → TransformMeans T ps m →
     TransformMeans T ps n → m ≡ n
-one_transform T ps m n a b = a.means
-    ∙ ap normal_transform (sym (transform_of-pieces a.written a.grammatical)
-    ∙ ap transform_of (sym a.spelled ∙ b.spelled) ∙ transform_of-pieces b.written b.grammatical)
-    ∙ sym b.means
+one_transform T ps m n a b = grind (arith, transform_of-pieces)
 
 pub one_extensions : (T : LanguageLengths) (bs : List Block) (d e : Extensions) →
     BlocksGive (grammar_rules T) bs d → BlocksGive (grammar_rules T) bs e → d ≡ e
@@ -320,18 +366,12 @@ pub read_by_blocks : (T : LanguageLengths) (t : Text) → SpellsIdentifier T (he
     AreGood T [] (tail_blocks (pieces t)) → MeansByBlocks T t (meaning (written_of (pieces t)))
 read_by_blocks T t s g =
     let w = written_of (pieces t) in let h = good_written T t s g in record {
-      id = record {
-        written = w.id;
-        grammatical = h.id;
-        spelled = ap head (pieces-written_of t) ∙ head-spelling w h;
-        means = refl;
-      };
-      extensions = subst (λ bs. BlocksGive (grammar_rules T) bs (extensions_meaning w))
-          (blocks_read (pieces t)) (blocks_give T w h);
+      id = grind (arith, pieces-written_of, head-spelling);
+      extensions = rw (blocks_read (pieces t)) at (blocks_give T w h);
     }
 
 pub blocks_tree : (T : LanguageLengths) (t : Text) (M : Locale) → MeansByBlocks T t M → TreeMeans T t M
 blocks_tree T t M m =
     let s : SpellsIdentifier T (head (pieces t)) = (m.id.written, m.id.grammatical, m.id.spelled) in
     let g = blocks_good T (tail_blocks (pieces t)) M.extensions m.extensions in
-    subst (TreeMeans T t) (one_by_blocks T t _ M (read_by_blocks T t s g) m) (good_means T t s g)
+    rw (one_by_blocks T t _ M (read_by_blocks T t s g) m) at (good_means T t s g)

@@ -1,30 +1,76 @@
 -- Steps lead from each text of a meaning to the printed one.
 use Rattle.std.proofs.Common.{◌≡◌, ℕ, ◌<◌, Bool, true, false, cond, not, List, [], ◌∷◌, length, map, filter}
-use Rattle.std.proofs.Common.{refl, sym, ap, ◌∙◌, subst, arith, Option, Some, None, IfSome, option_map}
+use Rattle.std.proofs.Common.{refl, ap, ◌∙◌, arith, Option, Some, None, IfSome, option_map}
 use Rattle.std.specs.Prelude.{codes}
 use Rattle.std.specs.List.{AllByRecursion, AllZip}
-use Rattle.std.specs.FinMap.{is_sorted}
-use Rattle.iloc_spec_grammar.specs.Syntax.{LanguageLengths, Field, Text, Subtag, is_word, lower, upper, title}
-use Rattle.iloc_spec_grammar.specs.Syntax.{word_cmp, is_true}
-use Rattle.iloc_spec_grammar.specs.Syntax.{SpelledIdentifier, Fields, kept, IsIdentifier, IsField}
-use Rattle.iloc_spec_grammar.specs.Syntax.{AllDifferent}
-use Rattle.iloc_spec_grammar.specs.Tree.{Extension, unicode, transform, other, IsExtension, spelled_transform}
-use Rattle.iloc_spec_grammar.specs.Tree.{spelled_unicode}
-use Rattle.iloc_spec_grammar.specs.Meaning.{set_of, normal_identifier, normal_values, normal_fields}
-use Rattle.iloc_spec_grammar.specs.Meaning.{normal_unicode, normal_transform}
-use Rattle.iloc_spec_grammar.specs.Values.{lower_identifier, spelled_value, spelled_fields}
-use Rattle.iloc_spec_grammar.specs.Values.{Without}
-use Rattle.iloc_spec_grammar.specs.TreeSteps.{TreeLessTrue, keys_differ, Repeats, Trues}
-use Rattle.iloc_spec_grammar.specs.TreeSteps.{DroppedPieces, VariantOrder, AttributeOrder, FieldOrder}
-use Rattle.iloc_spec_grammar.specs.TreeSteps.{TreeIdentifierStep, ExtensionStep}
+use Rattle.iloc_spec_grammar.specs.Syntax.{
+  LanguageLengths,
+  Field,
+  Text,
+  Subtag,
+  is_word,
+  lower,
+  word_cmp,
+  is_true,
+  SpelledIdentifier,
+  Fields,
+  kept,
+  IsIdentifier,
+  IsField,
+  AllDifferent,
+}
+use Rattle.iloc_spec_grammar.specs.Tree.{
+  Extension,
+  unicode,
+  transform,
+  other,
+  IsExtension,
+  spelled_transform,
+  spelled_unicode,
+}
+use Rattle.iloc_spec_grammar.specs.Meaning.{
+  set_of,
+  normal_identifier,
+  normal_values,
+  normal_fields,
+  normal_unicode,
+  normal_transform,
+}
+use Rattle.iloc_spec_grammar.specs.Values.{lower_identifier, spelled_value, spelled_fields, Without}
+use Rattle.iloc_spec_grammar.specs.TreeSteps.{
+  TreeLessTrue,
+  keys_differ,
+  Repeats,
+  Trues,
+  DroppedPieces,
+  VariantOrder,
+  AttributeOrder,
+  FieldOrder,
+  TreeIdentifierStep,
+  ExtensionStep,
+}
 use Rattle.iloc_spec_grammar.proofs.WordsLaws.{lower-lower, lower-title, lower-upper}
 use Rattle.iloc_spec_grammar.proofs.MapLaws.{map_of_sorted, word_cmp_total, same_words}
-use Rattle.iloc_spec_grammar.proofs.ValuesLaws.{set_of_ascending, lower_twice, same_identifier, filter_all}
-use Rattle.iloc_spec_grammar.proofs.ValuesLaws.{all_weaker, ascend_as_keys}
+use Rattle.iloc_spec_grammar.proofs.ValuesLaws.{
+  set_of_ascending,
+  lower_twice,
+  same_identifier,
+  filter_all,
+  all_weaker,
+  ascend_as_keys,
+}
 use Rattle.iloc_spec_grammar.proofs.Orders.{all_reordered, all_repeats}
 use Rattle.iloc_spec_grammar.proofs.CaseLaws.{low, low_fields, low_extension}
-use Rattle.iloc_spec_grammar.proofs.Sorting.{sort, reordered-sort, sorted-sort, dedup, without-dedup}
-use Rattle.iloc_spec_grammar.proofs.Sorting.{different-dedup, without-filter, filter-passes}
+use Rattle.iloc_spec_grammar.proofs.Sorting.{
+  sort,
+  reordered-sort,
+  sorted-sort,
+  dedup,
+  without-dedup,
+  different-dedup,
+  without-filter,
+  filter-passes,
+}
 use Rattle.std.specs.Cmp.{Equal-is}
 use Rattle.iloc_spec_grammar.proofs.General.{option_map-then, zip_map, all_of, all_mapped, map-same}
 use Rattle.std.proofs.lemmas.Simd.{map-map}
@@ -104,12 +150,10 @@ record Kept (ps qs : List Text) : Type 0 where
 no_true_means : (qs : List Text) → AllByRecursion (λ q. is_true (lower q) ≡ false) qs →
     normal_values qs ≡ low qs
 no_true_means [] h = refl
-no_true_means (q ∷ qs) h = ap (λ b. cond (not b) (lower q ∷ normal_values qs) (normal_values qs)) h.0
-    ∙ ap (λ l. lower q ∷ l) (no_true_means qs h.1)
+no_true_means (q ∷ qs) h = search (no_true_means qs h.1)
 
 none_true : (ps : List Text) → AllByRecursion (λ q. is_true (lower q) ≡ false) (no_trues ps)
-none_true ps = all_weaker (λ q. not (is_true (lower q)) ≡ true) (λ q. is_true (lower q) ≡ false)
-    (λ q e. not-true _ e) (no_trues ps) (filter-passes (λ q. not (is_true (lower q))) ps)
+none_true ps = grind (arith, all_weaker, not-true, filter-passes)
 
 pub true_word : (w : Text) → is_true w ≡ true → codes "true" ≡ w
 unfolding is_true
@@ -121,8 +165,7 @@ kept_one p ps = at_rest (no_trues (p ∷ ps)) refl (none_true (p ∷ ps))
     at_rest : (qs : List Text) → no_trues (p ∷ ps) ≡ qs →
         AllByRecursion (λ q. is_true (lower q) ≡ false) qs → Kept (p ∷ ps) (or_first qs (p ∷ ps))
     at_rest (q ∷ qs) e n = record {
-      less = subst (Without (λ p. is_true (lower p)) (p ∷ ps)) e
-          (without-filter (λ p. is_true (lower p)) (p ∷ ps));
+      less = rw e at (without-filter (λ p. is_true (lower p)) (p ∷ ps));
       positive = omega arith;
       value = ap spelled_value (no_true_means (q ∷ qs) n);
     }
@@ -130,11 +173,9 @@ kept_one p ps = at_rest (no_trues (p ∷ ps)) refl (none_true (p ∷ ps))
         is_true (lower p) ≡ b → cond (not b) (p ∷ no_trues ps) (no_trues ps) ≡ [] → Kept (p ∷ ps) (p ∷ [])) [
           | true ↦ λ t e. record {
             less = Without.stays
-                (subst (Without (λ p. is_true (lower p)) ps) e
-                (without-filter (λ p. is_true (lower p)) ps));
+                (rw e at (without-filter (λ p. is_true (lower p)) ps));
             positive = omega arith;
-            value = ap (λ b. spelled_value (cond (not b) (lower p ∷ []) [])) t
-                ∙ ap (λ w. w ∷ []) (true_word (lower p) t);
+            value = grind (arith, true_word);
           }
           | false ↦ λ t e. cc
         ]) refl e
@@ -147,15 +188,10 @@ trues_unicode : (fs : Fields) → AllZip TreeLessTrue fs (map (λ f. (f.0, no_tr
 trues_unicode fs = zip_map TreeLessTrue (λ f. Unit {0}) (λ f. (f.0, no_trues f.1))
     (λ f _. (refl, without-filter (λ p. is_true (lower p)) f.1)) fs (all_of _ (λ f. tt) fs)
 
-trues_transform : (fs : Fields) → AllByRecursion IsField fs →
-    AllZip (λ f g. TreeLessTrue f g × (0 < length g.1)) fs (map (λ f. (f.0, keep_one f.1)) fs)
-trues_transform = zip_map (λ f g. TreeLessTrue f g × (0 < length g.1)) IsField (λ f. (f.0, keep_one f.1))
-    (λ f h. let k = kept_some f.1 h.2 in ((refl, k.less), k.positive))
-
 pub trues_step : (T : LanguageLengths) (c : ℕ) (e : Extension) → IsExtension T c e →
     ExtensionStep Trues e (without_trues e)
 trues_step T c (unicode u) h = ExtensionStep.unicode_trues (trues_unicode u.keywords)
-trues_step T c (transform m) h = ExtensionStep.transform_trues (trues_transform m.fields h.1.fields)
+trues_step T c (transform m) h = ExtensionStep.transform_trues (grind (arith, zip_map, kept_some))
 trues_step T c (other ps) h = ExtensionStep.same
 
 without_others : (keep : Text → Bool) (ps : List Text) →
@@ -201,13 +237,8 @@ field_order_step (other ps) d = ExtensionStep.same
 pub keys_differ_then : (e : Extension) →
     KeysDiffer
     (with_sorted_attributes (with_sorted_variants (without_dropped (without_trues (without_repeats e)))))
-keys_differ_then (unicode u) = subst (AllDifferent word_cmp)
-    (sym (map-map (λ (f : Field). lower f.0) (λ f. (f.0, no_trues f.1))
-    (dedup (λ f. f.0) [] u.keywords))) (different-dedup (λ (f : Field). f.0) [] u.keywords)
-keys_differ_then (transform m) = subst (AllDifferent word_cmp)
-    (sym (map-map (λ (f : Field). lower f.0) (λ f. (f.0, keep_one f.1))
-    (dedup (λ f. f.0) [] m.fields))) (different-dedup (λ (f : Field). f.0) [] m.fields)
 keys_differ_then (other ps) = tt
+keys_differ_then _ = search (map-map, different-dedup)
 
 -- what an extension in order means is its lower case
 
@@ -219,29 +250,19 @@ IsCanonical (other ps) = kept ps ≡ low ps
 sorted_set : (ws : List Text) → AllDifferent word_cmp (map lower ws) →
     set_of (low (sort_words ws)) ≡ low (sort_words ws)
 sorted_set ws d = set_of_ascending (low (sort_words ws))
-    (ascend_as_keys _ (ap (is_sorted word_cmp) (map-map {B = Text} (λ w. (w, w)) lower (sort_words ws))
-    ∙ sorted-sort word_cmp lower word_cmp_total lower ws d))
+    (ascend_as_keys _ (simp (map-map, sorted-sort, word_cmp_total)))
 
 no_true_entries : (fs : Fields) →
     AllByRecursion (λ f. AllByRecursion (λ q. is_true (lower q) ≡ false) f.1) fs →
     map {B = Field} (λ f. (lower f.0, normal_values f.1)) fs ≡ low_fields fs
-no_true_entries fs h = map-same (λ f. (lower f.0, normal_values f.1)) (λ f. (lower f.0, low f.1)) fs
-    (all_weaker (λ f. AllByRecursion (λ q. is_true (lower q) ≡ false) f.1)
-    (λ f. (lower f.0, normal_values f.1) ≡ (lower f.0, low f.1)) (λ f n i. (lower f.0, no_true_means f.1 n i))
-    fs h)
-
-none_true_fields : (fs : Fields) →
-    AllByRecursion (λ (f : Field). AllByRecursion (λ q. is_true (lower q) ≡ false) f.1)
-    (map (λ f. (f.0, no_trues f.1)) fs)
-none_true_fields fs = all_mapped (λ f. Unit {0}) (λ f. AllByRecursion (λ q. is_true (lower q) ≡ false) f.1)
-    (λ f. (f.0, no_trues f.1)) (λ f _. none_true f.1) fs (all_of _ (λ f. tt) fs)
+no_true_entries fs h = search (map-same, all_weaker, no_true_means)
 
 canonical_keywords : (fs : Fields) → keys_differ fs →
     AllByRecursion (λ f. AllByRecursion (λ q. is_true (lower q) ≡ false) f.1) fs →
     normal_fields (sort_fields fs) ≡ low_fields (sort_fields fs)
 canonical_keywords fs d n =
-    map_of_sorted word_cmp (map (λ f. (lower f.0, normal_values f.1)) (sort_fields fs)) (sorted-sort word_cmp
-    (λ (f : Field). lower f.0) word_cmp_total (λ f. normal_values f.1) fs d)
+    map_of_sorted word_cmp (map (λ f. (lower f.0, normal_values f.1)) (sort_fields fs))
+    (simp (sorted-sort, word_cmp_total))
     ∙ no_true_entries (sort_fields fs)
     (all_reordered (λ f. AllByRecursion (λ q. is_true (lower q) ≡ false) f.1)
     (reordered-sort word_cmp (λ (f : Field). lower f.0) fs) n)
@@ -252,14 +273,13 @@ IsSpelled f = spelled_value (normal_values f.1) ≡ low f.1
 spelled_entries : (fs : Fields) → AllByRecursion IsSpelled fs →
     spelled_fields (map (λ f. (lower f.0, normal_values f.1)) fs) ≡ low_fields fs
 spelled_entries [] h = refl
-spelled_entries (f ∷ fs) h = λ i. (lower f.0, h.0 i) ∷ spelled_entries fs h.1 i
+spelled_entries (f ∷ fs) h = search (spelled_entries fs h.1)
 
 canonical_fields : (fs : Fields) → keys_differ fs → AllByRecursion IsSpelled fs →
     spelled_fields (normal_fields (sort_fields fs)) ≡ low_fields (sort_fields fs)
 canonical_fields fs d n =
     ap spelled_fields
-    (map_of_sorted word_cmp (map (λ f. (lower f.0, normal_values f.1)) (sort_fields fs)) (sorted-sort word_cmp
-    (λ (f : Field). lower f.0) word_cmp_total (λ f. normal_values f.1) fs d))
+    (simp (map_of_sorted, sorted-sort, word_cmp_total))
     ∙ spelled_entries (sort_fields fs)
     (all_reordered IsSpelled (reordered-sort word_cmp (λ (f : Field). lower f.0) fs) n)
 
@@ -269,10 +289,8 @@ spelled_kept = all_mapped IsField IsSpelled (λ f. (f.0, keep_one f.1)) (λ f h.
 
 pub canonical_identifier : (i : SpelledIdentifier) → AllDifferent word_cmp (map lower i.variants) →
     lower_identifier (normal_identifier (sort_identifier i)) ≡ lower_identifier (sort_identifier i)
-canonical_identifier i d = same_identifier _ _ _ _ _ _ _ _ (lower-lower i.language)
-    (option_map-then lower title lower lower-title i.script)
-    (option_map-then lower upper lower lower-upper i.region)
-    (ap low (sorted_set i.variants d) ∙ lower_twice (sort_words i.variants))
+canonical_identifier i d =
+    search (same_identifier, lower-lower, option_map-then, lower-title, lower-upper, sorted_set, lower_twice)
 
 canonical_optional : (T : LanguageLengths) (o : Option SpelledIdentifier) → IfSome o (IsIdentifier T) →
     option_map lower_identifier (option_map normal_identifier (option_map sort_identifier o))
@@ -289,7 +307,9 @@ canonical T c (unicode u) h =
     λ i. unicode (record {
       attributes = sorted_set ds (different-dedup (λ (a : Text). a) [] u.attributes) i;
       keywords = canonical_keywords ks (keys_differ_then (unicode u))
-          (none_true_fields (dedup (λ f. f.0) [] u.keywords)) i;
+          (all_mapped (λ f. Unit {0}) (λ f. AllByRecursion (λ q. is_true (lower q) ≡ false) f.1)
+          (λ f. (f.0, no_trues f.1)) (λ f _. none_true f.1) (dedup (λ f. f.0) [] u.keywords)
+          (all_of _ (λ f. tt) (dedup (λ f. f.0) [] u.keywords))) i;
     })
 canonical T c (transform m) h =
     let ds : Fields = dedup (λ f. f.0) [] m.fields in
@@ -300,5 +320,4 @@ canonical T c (transform m) h =
           (spelled_kept ds (all_repeats IsField (λ f. f.0)
           (without-dedup (λ (f : Field). f.0) [] m.fields) h.1.fields)) i;
     })
-canonical T c (other ps) h =
-    ap low (filter_all (is_word Subtag) (filter (is_word Subtag) ps) (filter-passes (is_word Subtag) ps))
+canonical T c (other ps) h = rw (low, filter_all, filter-passes)

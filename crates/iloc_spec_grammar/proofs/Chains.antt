@@ -1,32 +1,109 @@
 -- At most eight steps lead from each accepted text to the printed text of its meaning.
-use Rattle.std.proofs.Common.{true≢false, ◌≡◌, ◌≢◌, ◌⊎◌, inl, inr, ℕ, zero, suc, ◌+◌, ◌<◌, Bool, true, false}
-use Rattle.std.proofs.Common.{cond, ◌||◌, List, [], ◌∷◌, ◌++◌, length, map, filter_map, flat_map, refl, sym}
-use Rattle.std.proofs.Common.{ap, ◌∙◌, subst, arith, Option, Some, None, IfSome, option_map, option_to_list}
-use Rattle.std.proofs.Common.{is_some, nat_lt}
+use Rattle.std.proofs.Common.{
+  option_to_list,
+  ◌≡◌,
+  ◌≢◌,
+  ◌⊎◌,
+  inl,
+  inr,
+  ℕ,
+  zero,
+  suc,
+  ◌+◌,
+  ◌<◌,
+  Bool,
+  true,
+  cond,
+  ◌||◌,
+  List,
+  [],
+  ◌∷◌,
+  ◌++◌,
+  length,
+  map,
+  filter_map,
+  flat_map,
+  refl,
+  sym,
+  ap,
+  ◌∙◌,
+  subst,
+  arith,
+  Option,
+  Some,
+  None,
+  IfSome,
+  option_map,
+  is_some,
+  nat_lt,
+}
 use Rattle.std.specs.List.{AllByRecursion, AllZip}
 use Rattle.std.specs.Char.{to_ascii_lowercase}
-use Rattle.std.specs.Ordering.{nat_cmp, eq_by_cmp}
+use Rattle.std.specs.Ordering.{nat_cmp}
 use Rattle.std.specs.Cmp.{nat_cmp_total}
 use Rattle.std.specs.FinMap.{find, is_sorted, nat_cmp-IsAntisymmetric}
 use Rattle.std.specs.FinMap.Entries.{same_entries}
 use Rattle.std.proofs.lemmas.Bool.{cases_eq, lt-ltb}
 use Rattle.std.proofs.lemmas.List.{map-append, length-map}
 use Rattle.std.proofs.lemmas.Str.Ascii.{lowercase-lowercase}
-use Rattle.iloc_spec_grammar.specs.Syntax.{LanguageLengths, Block, code_x, code_u, code_t, Text, join, lower}
-use Rattle.iloc_spec_grammar.specs.Syntax.{SpelledIdentifier, SpelledUnicode, SpelledTransform}
-use Rattle.iloc_spec_grammar.specs.Syntax.{Identifier, Fields, identifier_pieces, optional_pieces}
-use Rattle.iloc_spec_grammar.specs.Syntax.{fields_pieces, kept, lower_singleton, AllDifferent, IsPrivate}
-use Rattle.iloc_spec_grammar.specs.Tree.{Extension, unicode, transform, other, Written, extension_pieces}
-use Rattle.iloc_spec_grammar.specs.Tree.{extension_block, block_pieces, blocks_of, spelling, IsExtension}
-use Rattle.iloc_spec_grammar.specs.Tree.{IsWritten, unicode_part, transform_part, private_part, other_part}
-use Rattle.iloc_spec_grammar.specs.Tree.{by_singleton, meaning, IsTreeWellFormed, private_form, printed}
-use Rattle.iloc_spec_grammar.specs.Tree.{tree_text, spelled_transform, spelled_unicode}
-use Rattle.iloc_spec_grammar.specs.Meaning.{normal_identifier, normal_fields, normal_unicode}
-use Rattle.iloc_spec_grammar.specs.Meaning.{normal_transform}
-use Rattle.iloc_spec_grammar.specs.Values.{IsValue, lower_identifier, spelled_fields}
-use Rattle.iloc_spec_grammar.specs.TreeSteps.{TreeRule, Repeats, Trues, DroppedPieces, VariantOrder}
-use Rattle.iloc_spec_grammar.specs.TreeSteps.{AttributeOrder, FieldOrder, TreeIdentifierStep, ExtensionStep}
-use Rattle.iloc_spec_grammar.specs.TreeSteps.{Step, written}
+use Rattle.iloc_spec_grammar.specs.Syntax.{
+  LanguageLengths,
+  Block,
+  code_x,
+  code_u,
+  code_t,
+  Text,
+  join,
+  lower,
+  SpelledIdentifier,
+  Identifier,
+  Fields,
+  identifier_pieces,
+  fields_pieces,
+  lower_singleton,
+  IsPrivate,
+}
+use Rattle.iloc_spec_grammar.specs.Tree.{
+  Extension,
+  unicode,
+  transform,
+  other,
+  Written,
+  extension_pieces,
+  extension_block,
+  block_pieces,
+  blocks_of,
+  spelling,
+  IsExtension,
+  IsWritten,
+  unicode_part,
+  transform_part,
+  private_part,
+  other_part,
+  by_singleton,
+  meaning,
+  IsTreeWellFormed,
+  private_form,
+  printed,
+  tree_text,
+  spelled_transform,
+  spelled_unicode,
+}
+use Rattle.iloc_spec_grammar.specs.Meaning.{normal_identifier}
+use Rattle.iloc_spec_grammar.specs.Values.{IsValue, lower_identifier}
+use Rattle.iloc_spec_grammar.specs.TreeSteps.{
+  TreeRule,
+  Repeats,
+  Trues,
+  DroppedPieces,
+  VariantOrder,
+  AttributeOrder,
+  FieldOrder,
+  TreeIdentifierStep,
+  ExtensionStep,
+  Step,
+  written,
+}
 use Rattle.iloc_spec_grammar.proofs.WordsLaws.{lower-lower}
 use Rattle.iloc_spec_grammar.proofs.MapLaws.{find-map_of, to_T}
 use Rattle.iloc_spec_grammar.proofs.ValuesLaws.{lower_twice, length-spelled_fields, same_identifier, all_both}
@@ -34,15 +111,36 @@ use Rattle.iloc_spec_grammar.proofs.ReadBack as back
 use Rattle.iloc_spec_grammar.proofs.WellRead.{written_value, written_well_formed}
 use Rattle.iloc_spec_grammar.proofs.Orders.{all_reordered}
 use Rattle.iloc_spec_grammar.proofs.StepLaws.{written_step, extension_step}
-use Rattle.iloc_spec_grammar.proofs.CaseLaws.{low, low_fields, low_extension, low_entry, low_entries}
-use Rattle.iloc_spec_grammar.proofs.CaseLaws.{low_block, low_written}
+use Rattle.iloc_spec_grammar.proofs.CaseLaws.{
+  low,
+  low_fields,
+  low_extension,
+  low_entry,
+  low_entries,
+  low_block,
+  low_written,
+}
 use Rattle.iloc_spec_grammar.proofs.Sorting.{sort, reordered-sort, sorted-sort}
-use Rattle.iloc_spec_grammar.proofs.Canonical.{sort_identifier, without_repeats, without_trues}
-use Rattle.iloc_spec_grammar.proofs.Canonical.{without_dropped, with_sorted_variants, with_sorted_attributes}
-use Rattle.iloc_spec_grammar.proofs.Canonical.{with_sorted_fields, repeats_step, trues_step, dropped_step}
-use Rattle.iloc_spec_grammar.proofs.Canonical.{variant_order_step, attribute_order_step, field_order_step}
-use Rattle.iloc_spec_grammar.proofs.Canonical.{identifier_order_step, keys_differ_then, IsCanonical}
-use Rattle.iloc_spec_grammar.proofs.Canonical.{canonical, canonical_identifier}
+use Rattle.iloc_spec_grammar.proofs.Canonical.{
+  sort_identifier,
+  without_repeats,
+  without_trues,
+  without_dropped,
+  with_sorted_variants,
+  with_sorted_attributes,
+  with_sorted_fields,
+  repeats_step,
+  trues_step,
+  dropped_step,
+  variant_order_step,
+  attribute_order_step,
+  field_order_step,
+  identifier_order_step,
+  keys_differ_then,
+  IsCanonical,
+  canonical,
+  canonical_identifier,
+}
 use Rattle.iloc_spec_grammar.proofs.Singletons.{untied, find_holds}
 use Rattle.iloc_spec_grammar.proofs.General.{cond-map, map-then, option_map-then, zip_map, all_mapped}
 use Rattle.std.proofs.lemmas.Simd.{map-map}
@@ -52,28 +150,22 @@ use Rattle.iloc_spec_grammar.proofs.PartTexts.{identifier_pieces-low, option_to_
 
 fields_pieces-low : (fs : Fields) → fields_pieces (low_fields fs) ≡ low (fields_pieces fs)
 fields_pieces-low [] = refl
-fields_pieces-low (f ∷ fs) = ap (λ l. (lower f.0 ∷ low f.1) ++ l) (fields_pieces-low fs)
-    ∙ sym (map-append lower (f.0 ∷ f.1) (fields_pieces fs))
+fields_pieces-low (f ∷ fs) = rw (low, map-append, fields_pieces-low fs)
 
 extension_pieces-low : (e : Extension) → extension_pieces (low_extension e) ≡ low (extension_pieces e)
-extension_pieces-low (unicode u) = ap (λ l. low u.attributes ++ l) (fields_pieces-low u.keywords)
-    ∙ sym (map-append lower u.attributes (fields_pieces u.keywords))
-extension_pieces-low (transform m) = (λ k. id_pieces-low m.id k ++ fields_pieces-low m.fields k)
-    ∙ sym (map-append lower (optional_pieces m.id) (fields_pieces m.fields))
+extension_pieces-low (unicode u) = rw (low, fields_pieces-low, map-append)
+extension_pieces-low (transform m) = rw (id_pieces-low, fields_pieces-low, map-append)
 extension_pieces-low (other ps) = refl
 
 blocks-low : (bs : List Block) →
     flat_map block_pieces (map low_block bs) ≡ low (flat_map block_pieces bs)
 unfolding lower
 blocks-low [] = refl
-blocks-low (b ∷ bs) = ap (λ l. (lower (b.0 ∷ []) ∷ low b.1) ++ l) (blocks-low bs)
-    ∙ sym (map-append lower (block_pieces b) (flat_map block_pieces bs))
+blocks-low (b ∷ bs) = rw (low, map-append, blocks-low bs)
 
 entries-low : (es : List (ℕ × Extension)) →
     map extension_block (low_entries es) ≡ map low_block (map extension_block es)
-entries-low es = map-map extension_block low_entry es
-    ∙ (λ k. map (λ e. (to_ascii_lowercase e.0, extension_pieces-low e.1 k)) es)
-    ∙ sym (map-map low_block extension_block es)
+entries-low es = simp (map-map, low_entry, extension_pieces-low, low_block)
 
 spelling-low : (w : Written) → spelling (low_written w) ≡ low (spelling w)
 spelling-low w = (λ k. identifier_pieces-low w.id k
@@ -87,37 +179,31 @@ pub lower-join : (ps : List Text) → lower (join ps) ≡ join (low ps)
 unfolding join lower
 lower-join [] = refl
 lower-join (p ∷ []) = refl
-lower-join (p ∷ q ∷ ps) =
-    map-append to_ascii_lowercase p (45 ∷ join (q ∷ ps)) ∙ ap (λ l. lower p ++ 45 ∷ l) (lower-join (q ∷ ps))
+lower-join (p ∷ q ∷ ps) = rw (map-append, lower-join (q ∷ ps))
 
 same_text : (v w : Written) → low_written v ≡ low_written w →
     lower (join (spelling v)) ≡ lower (join (spelling w))
-same_text v w e = lower-join (spelling v) ∙ ap join (sym (spelling-low v) ∙ ap spelling e ∙ spelling-low w)
-    ∙ sym (lower-join (spelling w))
+same_text v w e = grind (arith, lower-join, spelling-low)
 
 -- lower case twice
 
-identifier_twice : (i : SpelledIdentifier) → lower_identifier (lower_identifier i) ≡ lower_identifier i
-identifier_twice i = same_identifier _ _ _ _ _ _ _ _ (lower-lower i.language)
-    (option_map-then lower lower lower lower-lower i.script)
-    (option_map-then lower lower lower lower-lower i.region) (lower_twice i.variants)
-
 fields_twice : (fs : Fields) → low_fields (low_fields fs) ≡ low_fields fs
-fields_twice fs = map-then (λ f. (lower f.0, low f.1)) (λ f. (lower f.0, low f.1)) (λ f. (lower f.0, low f.1))
-    (λ f i. (lower-lower f.0 i, lower_twice f.1 i)) fs
+fields_twice fs = search (map-then, lower-lower, lower_twice)
 
 extension_twice : (e : Extension) → low_extension (low_extension e) ≡ low_extension e
-extension_twice (unicode u) =
-    λ k. unicode (record { attributes = lower_twice u.attributes k; keywords = fields_twice u.keywords k })
-extension_twice (transform m) = λ k. transform (record {
-  id = option_map-then lower_identifier lower_identifier lower_identifier identifier_twice m.id k;
-  fields = fields_twice m.fields k;
-})
+extension_twice (unicode u) = rw (lower_twice, fields_twice)
+extension_twice (transform m) = grind (
+  arith,
+  fields_twice,
+  same_identifier,
+  lower-lower,
+  option_map-then,
+  lower_twice,
+)
 extension_twice (other ps) = ap other (lower_twice ps)
 
 entries_twice : (es : List (ℕ × Extension)) → low_entries (low_entries es) ≡ low_entries es
-entries_twice es =
-    map-then low_entry low_entry low_entry (λ e k. (lowercase-lowercase e.0 k, extension_twice e.1 k)) es
+entries_twice es = search (map-then, lowercase-lowercase, extension_twice)
 
 -- what is looked up in a text in order, and in its printed form
 
@@ -134,19 +220,9 @@ unicode_found : (T : LanguageLengths) (o : Option Extension) → IfSome o (Fine 
     (Some (unicode (spelled_unicode (unicode_part o)))) None
     ≡ option_map low_extension o
 unicode_found T None h = refl
-unicode_found T (Some (unicode u)) h =
-    let lowered : SpelledUnicode =
-    record { attributes = low u.attributes; keywords = low_fields u.keywords } in
-    let same : spelled_unicode (normal_unicode u) ≡ lowered = cc h.1 in
-    let n : 0 < length (low u.attributes) + length (low_fields u.keywords) =
-    let a = length-map u.attributes lower in
-    let b : length (low_fields u.keywords) ≡ length u.keywords = length-map u.keywords _ in
-    let p = h.0.1.nonempty in omega arith in
-    ap (λ (v : SpelledUnicode).
-    cond (nat_lt 0 (length v.attributes + length v.keywords)) (Some (unicode v)) None) same
-    ∙ ap (λ b. cond b (Some (unicode lowered)) None) (lt-ltb 0 _ n)
+unicode_found T (Some (unicode u)) h = grind (arith, low, low_fields, length-map, lt-ltb)
 unicode_found T (Some (transform m)) h = absurd (let k = h.0.0 in omega arith)
-unicode_found T (Some (other ps)) h = absurd (true≢false (sym h.0.0))
+unicode_found T (Some (other ps)) h = cc
 
 needed : (o : Option Identifier) (n : ℕ) → (o ≡ None → 0 < n) → (is_some o || nat_lt 0 n) ≡ true
 needed None n f = lt-ltb 0 n (f refl)
@@ -162,44 +238,16 @@ transform_found : (T : LanguageLengths) (o : Option Extension) → IfSome o (Fin
     ≡ option_map low_extension o
 transform_found T None h = refl
 transform_found T (Some (transform m)) h =
-    let lowered : SpelledTransform =
-    record { id = option_map lower_identifier m.id; fields = low_fields m.fields } in
-    let same : spelled_transform (normal_transform m) ≡ lowered = cc h.1 in
-    let a : length (spelled_fields (normal_fields m.fields)) ≡ length (low_fields m.fields) =
-    ap (λ (n : SpelledTransform). length n.fields) same in
-    let b : length (low_fields m.fields) ≡ length m.fields = length-map m.fields _ in
-    let c : length (spelled_fields (normal_fields m.fields)) ≡ length (normal_fields m.fields) =
-    length-spelled_fields (normal_fields m.fields) in
-    ap (λ b. cond b (Some (transform (spelled_transform (normal_transform m)))) None)
-    (needed (option_map normal_identifier m.id) (length (normal_fields m.fields))
-    (λ e. let p = h.0.1.nonempty (id_absent m.id e) in omega arith))
-    ∙ ap Some h.1
+    grind (arith, low_fields, length-map, length-spelled_fields, needed, id_absent)
 transform_found T (Some (unicode u)) h = absurd (let k = h.0.0 in omega arith)
-transform_found T (Some (other ps)) h = absurd (true≢false (sym h.0.0))
+transform_found T (Some (other ps)) h = cc
 
 others_found : (T : LanguageLengths) (q : ℕ) → q ≢ code_t → q ≢ code_u → (es : List (ℕ × Extension)) →
     AllByRecursion (λ e. Fine T (lower_singleton e) e.1) es →
     option_map other (find nat_cmp q (filter_map other_part (by_singleton es)))
     ≡ option_map low_extension (find nat_cmp q (by_singleton es))
 others_found T q t u [] h = refl
-others_found T q t u (e ∷ es) h = at_kind e.1 h.0 (others_found T q t u es h.1)
-  where
-    at_kind : (x : Extension) → Fine T (lower_singleton e) x →
-        option_map other (find nat_cmp q (filter_map other_part (by_singleton es)))
-        ≡ option_map low_extension (find nat_cmp q (by_singleton es)) →
-        option_map other (find nat_cmp q (filter_map other_part ((lower_singleton e, x) ∷ by_singleton es)))
-        ≡ option_map low_extension (find nat_cmp q ((lower_singleton e, x) ∷ by_singleton es))
-    at_kind (unicode v) f rest = rest
-        ∙ ap (λ b. option_map low_extension (cond b (Some (unicode v)) (find nat_cmp q (by_singleton es))))
-        (sym (untied q (lower_singleton e) (λ k. u (sym k ∙ f.0.0))))
-    at_kind (transform m) f rest = rest
-        ∙ ap (λ b. option_map low_extension (cond b (Some (transform m)) (find nat_cmp q (by_singleton es))))
-        (sym (untied q (lower_singleton e) (λ k. t (sym k ∙ f.0.0))))
-    at_kind (other ps) f rest = elim (eq_by_cmp nat_cmp q (lower_singleton e))
-        as (λ b.
-        option_map other (cond b (Some (kept ps)) (find nat_cmp q (filter_map other_part (by_singleton es))))
-        ≡ option_map low_extension (cond b (Some (other ps)) (find nat_cmp q (by_singleton es))))
-        [ true ↦ ap (λ l. Some (other l)) f.1 | false ↦ rest ]
+others_found T q t u (e ∷ es) h = grind (arith, low_extension, untied, others_found T q t u es h.1)
 
 -- a text in order differs from its printed form in case alone
 
@@ -226,8 +274,7 @@ ending T w h c s i = λ k. record {
 }
   where
     fine : AllByRecursion (λ e. Fine T (lower_singleton e) e.1) w.extensions
-    fine = all_both (λ e. IsExtension T (lower_singleton e) e.1) (λ e. IsCanonical e.1) w.extensions
-        h.extensions c
+    fine = grind (arith, all_both)
 
     v : IsValue T (meaning w)
     v = written_value w h
@@ -237,22 +284,20 @@ ending T w h c s i = λ k. record {
 
     at : (q : ℕ) → (q ≡ code_t) ⊎ (q ≡ code_t → ⊥) → (q ≡ code_u) ⊎ (q ≡ code_u → ⊥) →
         find nat_cmp q (low_entries w.extensions) ≡ find nat_cmp q (printed (meaning w)).extensions
-    at q (inl e) u = subst (λ (q : ℕ).
-        find nat_cmp q (low_entries w.extensions) ≡ find nat_cmp q (printed (meaning w)).extensions)
-        (sym e) (find_entries code_t w.extensions
+    at q (inl e) u = rw e (find_entries code_t w.extensions
         ∙ sym (transform_found T (find nat_cmp code_t (by_singleton w.extensions))
         (find_holds (Fine T) code_t w.extensions fine))
         ∙ sym (back.printed_t (meaning w) v g))
-    at q (inr t) (inl e) = subst (λ (q : ℕ).
-        find nat_cmp q (low_entries w.extensions) ≡ find nat_cmp q (printed (meaning w)).extensions)
-        (sym e) (find_entries code_u w.extensions
+    at q (inr t) (inl e) = rw e (find_entries code_u w.extensions
         ∙ sym (unicode_found T (find nat_cmp code_u (by_singleton w.extensions))
         (find_holds (Fine T) code_u w.extensions fine))
         ∙ sym (back.printed_u (meaning w) v g))
-    at q (inr t) (inr u) = find_entries q w.extensions ∙ sym (others_found T q t u w.extensions fine)
-        ∙ ap (option_map other)
-        (sym (find-map_of nat_cmp nat_cmp_total q (filter_map other_part (by_singleton w.extensions))))
-        ∙ sym (back.printed_other (meaning w) v g q t u)
+    at q (inr t) (inr u) = cc (
+      find_entries q w.extensions,
+      others_found T q t u w.extensions fine,
+      find-map_of nat_cmp nat_cmp_total q (filter_map other_part (by_singleton w.extensions)),
+      back.printed_other (meaning w) v g q t u,
+    )
 
     same : low_entries w.extensions ≡ (printed (meaning w)).extensions
     same = same_entries nat_cmp nat_cmp_total nat_cmp-IsAntisymmetric _ _ (to_T _ s)
@@ -269,7 +314,7 @@ stage : (T : LanguageLengths) (r : TreeRule) (f g : Extension → Extension) →
     (es : List (ℕ × Extension)) → AllByRecursion (λ e. IsExtension T (lower_singleton e) e.1) es →
     AllZip (λ e g. (e.0 ≡ g.0) × ExtensionStep r e.1 g.1) (at_all f es) (at_all g es)
 stage T r f g s [] h = tt
-stage T r f g s (e ∷ es) h = ((refl, s (lower_singleton e) e.1 h.0), stage T r f g s es h.1)
+stage T r f g s (e ∷ es) h = search (stage T r f g s es h.1)
 
 -- n steps of written locales, one after the other
 abbrev pub Steps : ℕ → Written → Written → Type 0
@@ -305,8 +350,7 @@ seven_steps T w h =
     let end = written i (sort nat_cmp key (at_all f6 es)) x in
     let steps : Steps 7 w end = (
       written w.id (at_all without_repeats es) x,
-      Step.inside Repeats TreeIdentifierStep.same (zip_map _ (λ e. IsExtension T (lower_singleton e) e.1)
-          (λ e. (e.0, without_repeats e.1)) (λ e _. (refl, repeats_step e.1)) es h.extensions),
+      Step.inside Repeats TreeIdentifierStep.same (search (zip_map, without_repeats, repeats_step)),
       (
         written w.id (at_all f2 es) x,
         Step.inside Trues TreeIdentifierStep.same (stage T Trues without_repeats f2
@@ -342,12 +386,12 @@ seven_steps T w h =
     let after = steps_keep T 7 w end h steps in
     let canonicals = all_mapped (λ e. IsExtension T (lower_singleton e) e.1) (λ e. IsCanonical e.1)
     (λ e. (e.0, f6 e.1)) (λ e k. canonical T (lower_singleton e) e.1 k) es h.extensions in
-    let different = subst (AllDifferent nat_cmp) (sym (map-map key (λ e. (e.0, f6 e.1)) es)) h.different in
+    let different = rw (← (map-map key (λ e. (e.0, f6 e.1)) es)) at h.different in
     let same = ending T end after.0 (all_reordered (λ (e : ℕ × Extension). IsCanonical e.1) sorted canonicals)
     (sorted-sort nat_cmp key nat_cmp_total (λ e. low_extension e.1) (at_all f6 es) different)
     (canonical_identifier w.id h.id.different) in
     record {
       end = end;
       steps = steps;
-      same = same_text end (printed (meaning end)) same ∙ ap (λ N. lower (tree_text N)) after.1;
+      same = cc (same_text end (printed (meaning end)) same, after.1);
     }

@@ -1,14 +1,22 @@
 -- The equality tests decide equality.
-use Rattle.std.proofs.Common.{◌≡◌, ◌↔◌, Bool, true, false, ◌&&◌, ◌==◌, [], ◌∷◌, Some, None, refl, sym, ap}
-use Rattle.std.proofs.Common.{subst, true≢false}
+use Rattle.std.proofs.Common.{arith, ◌≡◌, ◌↔◌, Bool, false, ◌&&◌, ◌==◌, [], ◌∷◌, Some, None, ap, true≢false}
 use Rattle.std.specs.Bool.{IsTrue}
 use Rattle.iloc_spec_grammar.specs.Syntax.{is_same, SpelledIdentifier}
 use Rattle.iloc_spec_grammar.specs.Tree.{unicode, transform, other}
 use Rattle.iloc_spec_grammar.proofs.MapLaws.{same_is, same_itself}
 use Rattle.iloc_spec_grammar.proofs.RuleTests.{Tests, tests_and, tests_like, tests_nat}
-use Rattle.iloc_spec_grammar.specs.StepTests.{DecidesEquality, all_zip, option_zip, block_zip, same_words}
-use Rattle.iloc_spec_grammar.specs.StepTests.{same_field, same_fields, same_but_variants, same_identifier}
-use Rattle.iloc_spec_grammar.specs.StepTests.{same_extension}
+use Rattle.iloc_spec_grammar.specs.StepTests.{
+  DecidesEquality,
+  all_zip,
+  option_zip,
+  block_zip,
+  same_words,
+  same_field,
+  same_fields,
+  same_but_variants,
+  same_identifier,
+  same_extension,
+}
 
 pub iff_from_tests : {b : Bool} {P : Type 0} → Tests b P → IsTrue b ↔ P
 iff_from_tests t = (t.holds, t.passes)
@@ -21,33 +29,29 @@ pub decided_equality : {X : Type 0} (same : X → X → Bool) → DecidesEqualit
 decided_equality same d x y = record { holds = (d x y).0; passes = (d x y).1 }
 
 pub word_equality : Equality is_same
-word_equality v w =
-    record { holds = same_is v w; passes = λ e. subst (λ u. is_same v u ≡ true) e (same_itself v) }
+word_equality v w = grind (arith, same_is, same_itself)
 
 -- of what never holds
 pub never : {P : Type 0} → ¬ P → Tests false P
-never n = record { holds = λ e. absurd (true≢false (sym e)); passes = λ p. absurd (n p) }
+never n = grind (arith, true≢false)
 
 -- pairs, lists and options
 
 pub pair_equality : {X Y : Type 0} (same : X → X → Bool) (alike : Y → Y → Bool) → Equality same →
     Equality alike → Equality {X = X × Y} (λ p q. same p.0 q.0 && alike p.1 q.1)
-pair_equality same alike a b p q = tests_like (λ (e : (p.0 ≡ q.0) × (p.1 ≡ q.1)). λ i. (e.0 i, e.1 i))
-    (λ (e : p ≡ q). (ap (λ p. p.0) e, ap (λ p. p.1) e)) (tests_and (a p.0 q.0) (b p.1 q.1))
+pair_equality same alike a b p q = grind (arith, tests_like, tests_and)
 
 pub list_equality : {X : Type 0} (same : X → X → Bool) → Equality same → Equality (all_zip same)
-list_equality same q [] [] = record { holds = λ e. refl; passes = λ e. refl }
+list_equality same q [] [] = search
 list_equality same q [] (y ∷ ys) = never (λ e. cc)
 list_equality same q (x ∷ xs) [] = never (λ e. cc)
-list_equality same q (x ∷ xs) (y ∷ ys) = tests_like (λ (e : (x ≡ y) × (xs ≡ ys)). λ i. e.0 i ∷ e.1 i)
-    (λ (e : x ∷ xs ≡ y ∷ ys). (cc, cc)) (tests_and (q x y) (list_equality same q xs ys))
+list_equality same q (x ∷ xs) (y ∷ ys) = grind (arith, tests_like, tests_and, list_equality same q xs ys)
 
 pub option_equality : {X : Type 0} (same : X → X → Bool) → Equality same → Equality (option_zip same)
-option_equality same q None None = record { holds = λ e. refl; passes = λ e. refl }
+option_equality same q None None = search
 option_equality same q None (Some y) = never (λ e. cc)
 option_equality same q (Some x) None = never (λ e. cc)
-option_equality same q (Some x) (Some y) =
-    tests_like (λ (e : x ≡ y). ap Some e) (λ (e : Some x ≡ Some y). cc) (q x y)
+option_equality same q (Some x) (Some y) = grind (arith, tests_like)
 
 -- the parts of a written locale
 
@@ -68,8 +72,7 @@ abbrev pub FrontsEqual : SpelledIdentifier → SpelledIdentifier → Type 0
 FrontsEqual i j = (i.language ≡ j.language) × ((i.script ≡ j.script) × (i.region ≡ j.region))
 
 pub fronts_equality : (i j : SpelledIdentifier) → Tests (same_but_variants i j) (FrontsEqual i j)
-fronts_equality i j = tests_and (word_equality i.language j.language)
-    (tests_and (optional_word i.script j.script) (optional_word i.region j.region))
+fronts_equality i j = search (tests_and, word_equality, optional_word)
 
 pub identifier_equality : Equality same_identifier
 identifier_equality i j = tests_like

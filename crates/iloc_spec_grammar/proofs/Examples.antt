@@ -1,23 +1,47 @@
 -- Worked examples, computed by the plain program.
 use Rattle.std.proofs.lemmas.Bool.{both_ways}
 use Rattle.std.proofs.Common.{◌≡◌, [], ◌∷◌, refl, codes, Result, Ok, Err, arith, None}
-use Rattle.iloc_spec_grammar.specs.Syntax.{code_t, Text, pieces, join, is_word, lower, upper, title, is_true}
-use Rattle.iloc_spec_grammar.specs.Syntax.{languages}
-use Rattle.iloc_spec_grammar.specs.Syntax.{SpelledIdentifier, Identifier}
+use Rattle.iloc_spec_grammar.specs.Syntax.{
+  code_t,
+  Text,
+  pieces,
+  join,
+  is_word,
+  lower,
+  upper,
+  title,
+  is_true,
+  languages,
+  SpelledIdentifier,
+  Identifier,
+}
 use Rattle.iloc_spec_grammar.specs.Tree.{transform}
 use Rattle.iloc_spec_grammar.specs.Meaning.{Locale, Fault}
-use Rattle.iloc_spec_grammar.specs.Values.{TextStep, extensions_spelling, identifier_text}
-use Rattle.iloc_spec_grammar.specs.Values.{Without}
-use Rattle.iloc_spec_grammar.specs.TreeSteps.{keys_differ, Trues, TreeIdentifierStep}
-use Rattle.iloc_spec_grammar.specs.TreeSteps.{ExtensionStep, Step, TreeTextStep}
+use Rattle.iloc_spec_grammar.specs.Values.{TextStep, extensions_spelling, identifier_text, Without}
+use Rattle.iloc_spec_grammar.specs.TreeSteps.{
+  keys_differ,
+  Trues,
+  TreeIdentifierStep,
+  ExtensionStep,
+  Step,
+  TreeTextStep,
+}
 use Rattle.iloc_spec_grammar.specs.Reading.{identifier_of, front_of, unicode_of, transform_of, written_of}
-use Rattle.iloc_spec_grammar.specs.Computing.{locale_result, computed_text, identifier_result}
-use Rattle.iloc_spec_grammar.specs.Computing.{identifier_text_of}
+use Rattle.iloc_spec_grammar.specs.Computing.{
+  locale_result,
+  computed_text,
+  identifier_result,
+  identifier_text_of,
+}
 use Rattle.iloc_spec_grammar.specs.Examples.{Normalises, IsRefused, NormalisesIdentifier, IsRefusedIdentifier}
 use Rattle.iloc_spec_grammar.proofs.RawLaws.{languages_table}
 use Rattle.iloc_spec_grammar.proofs.SameSteps.{step_by_tree}
-use Rattle.iloc_spec_grammar.proofs.ComputingLaws.{computed_means, computed_fault, computed_identifier}
-use Rattle.iloc_spec_grammar.proofs.ComputingLaws.{computed_identifier_fault}
+use Rattle.iloc_spec_grammar.proofs.ComputingLaws.{
+  computed_means,
+  computed_fault,
+  computed_identifier,
+  computed_identifier_fault,
+}
 
 -- what the program answers, as a text
 unfoldable pub answer : Text → Result Text Fault
@@ -38,11 +62,11 @@ refused_from t f (Err g) e h = (computed_fault languages languages_table t f).0 
 
 pub normalises : (t u : Text) → answer t ≡ Ok u → Normalises t u
 unfolding answer
-normalises t u h = normalises_from t u (locale_result languages t) refl h
+normalises t u h = search normalises_from
 
 pub refused : (t : Text) (f : Fault) → answer t ≡ Err f → IsRefused t f
 unfolding answer
-refused t f h = refused_from t f (locale_result languages t) refl h
+refused t f h = search refused_from
 
 -- identifiers
 
@@ -52,8 +76,7 @@ identifier_answer t = identifier_text_of (identifier_result languages (pieces t)
 
 identifier_from : (t u : Text) (r : Result Identifier Fault) → identifier_result languages (pieces t) ≡ r →
     identifier_text_of r ≡ Ok u → NormalisesIdentifier t u
-identifier_from t u (Ok i) e h =
-    record { value = i; means = (computed_identifier languages t i).0 e; printed = cc }
+identifier_from t u (Ok i) e h = grind (arith, computed_identifier)
 identifier_from t u (Err f) e h = cc
 
 no_identifier_from : (t : Text) (f : Fault) (r : Result Identifier Fault) →
@@ -63,11 +86,11 @@ no_identifier_from t f (Err g) e h = (computed_identifier_fault languages t f).0
 
 pub normalises_identifier : (t u : Text) → identifier_answer t ≡ Ok u → NormalisesIdentifier t u
 unfolding identifier_answer
-normalises_identifier t u h = identifier_from t u (identifier_result languages (pieces t)) refl h
+normalises_identifier t u h = search identifier_from
 
 pub refused_identifier : (t : Text) (f : Fault) → identifier_answer t ≡ Err f → IsRefusedIdentifier t f
 unfolding identifier_answer
-refused_identifier t f h = no_identifier_from t f (identifier_result languages (pieces t)) refl h
+refused_identifier t f h = search no_identifier_from
 
 -- the two settled readings of the steps
 

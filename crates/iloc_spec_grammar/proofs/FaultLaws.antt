@@ -1,45 +1,182 @@
 -- A text is a locale or has exactly one fault.
-use Rattle.std.proofs.Common.{◌≡◌, ◌⊎◌, inl, inr, ℕ, Bool, true, false, cond, not, ◌&&◌, ◌==◌, List, [], ◌∷◌}
-use Rattle.std.proofs.Common.{◌++◌, length, map, flat_map, refl, sym, ap, ◌∙◌, subst, arith, Option, Some}
-use Rattle.std.proofs.Common.{None, IfSome, MatchOption, Result, Ok, Err, MatchResult, option_to_list}
-use Rattle.std.proofs.Common.{append_assoc, append-nil, ◌||◌}
+use Rattle.std.proofs.Common.{
+  ◌≡◌,
+  ◌⊎◌,
+  inl,
+  inr,
+  ℕ,
+  Bool,
+  true,
+  false,
+  cond,
+  not,
+  ◌&&◌,
+  ◌==◌,
+  List,
+  [],
+  ◌∷◌,
+  ◌++◌,
+  map,
+  flat_map,
+  refl,
+  sym,
+  ap,
+  ◌∙◌,
+  arith,
+  Option,
+  Some,
+  None,
+  IfSome,
+  MatchOption,
+  Result,
+  Ok,
+  Err,
+  MatchResult,
+  option_to_list,
+  append_assoc,
+  append-nil,
+}
 use Rattle.std.specs.List.{AllByRecursion, list_any}
 use Rattle.std.specs.Char.{is_ascii_alphanumeric, to_ascii_lowercase}
 use Rattle.std.specs.Ordering.{nat_cmp, eq_by_cmp}
 use Rattle.std.specs.declared.cmp.Ordering.{Ordering}
-use Rattle.std.proofs.lemmas.Bool.{or_from, or_parts, cond_both, both_ways, eqb-false, cases_Bool}
-use Rattle.std.proofs.lemmas.Bool.{false_from_ne_true}
+use Rattle.std.proofs.lemmas.Bool.{
+  or_from,
+  or_parts,
+  cond_both,
+  both_ways,
+  eqb-false,
+  cases_Bool,
+  false_from_ne_true,
+}
 use Rattle.std.proofs.lemmas.Bool.Decides.{nat_tests}
 use Rattle.std.proofs.lemmas.List.{map-append}
 use Rattle.std.proofs.lemmas.List.Folds.{list_any-append}
-use Rattle.iloc_spec_grammar.specs.Syntax.{LanguageLengths, Block, code_x, code_t, Text, pieces, Language}
-use Rattle.iloc_spec_grammar.specs.Syntax.{Script, Region, Variant, TransformKey, is_word}
-use Rattle.iloc_spec_grammar.specs.Syntax.{IsWord, AreLengths, lower, word_cmp, SpelledIdentifier}
-use Rattle.iloc_spec_grammar.specs.Syntax.{SpelledTransform, identifier_pieces, optional_pieces}
-use Rattle.iloc_spec_grammar.specs.Syntax.{transform_pieces, HasWords, IsIdentifier, lower_singleton}
-use Rattle.iloc_spec_grammar.specs.Syntax.{AllDifferent, front, blocks, head, tail_blocks, first_piece}
-use Rattle.iloc_spec_grammar.specs.Syntax.{IsPrivate}
-use Rattle.iloc_spec_grammar.specs.Tree.{Extension, Written, extension_block, block_pieces, blocks_of}
-use Rattle.iloc_spec_grammar.specs.Tree.{spelling, IsTransformBlock, IsExtension, IsWritten, TreeMeans}
-use Rattle.iloc_spec_grammar.specs.Tree.{meaning, HasSingleton, IsNew, IsBlock, TreeBlockFault, no_singleton}
-use Rattle.iloc_spec_grammar.specs.Tree.{duplicated, breaks_rule, FirstBadBlock, here, later, HasTreeFault}
-use Rattle.iloc_spec_grammar.specs.Tree.{no_language, no_identifier, bad_block}
-use Rattle.iloc_spec_grammar.specs.Meaning.{Locale, Fault, InvalidLanguage, InvalidSubtag, InvalidExtension}
-use Rattle.iloc_spec_grammar.specs.Meaning.{DuplicatedExtension, SpellsIdentifier, RepeatsVariant}
-use Rattle.iloc_spec_grammar.specs.Reading.{skip_first, passing, past, identifier_of, front_of, after_front}
-use Rattle.iloc_spec_grammar.specs.Reading.{before_key, extensions_in, private_in, written_of, transform_of}
-use Rattle.iloc_spec_grammar.specs.Computing.{is_identifier, is_block, repeats_variant, first_fault}
-use Rattle.iloc_spec_grammar.specs.Computing.{unless_fault, locale_result}
+use Rattle.iloc_spec_grammar.specs.Syntax.{
+  LanguageLengths,
+  Block,
+  code_x,
+  code_t,
+  Text,
+  pieces,
+  Language,
+  Script,
+  Region,
+  Variant,
+  TransformKey,
+  is_word,
+  IsWord,
+  AreLengths,
+  lower,
+  word_cmp,
+  SpelledIdentifier,
+  SpelledTransform,
+  identifier_pieces,
+  optional_pieces,
+  transform_pieces,
+  HasWords,
+  IsIdentifier,
+  lower_singleton,
+  AllDifferent,
+  front,
+  blocks,
+  head,
+  tail_blocks,
+  first_piece,
+  IsPrivate,
+}
+use Rattle.iloc_spec_grammar.specs.Tree.{
+  Extension,
+  Written,
+  extension_block,
+  block_pieces,
+  blocks_of,
+  spelling,
+  IsTransformBlock,
+  IsExtension,
+  IsWritten,
+  TreeMeans,
+  meaning,
+  HasSingleton,
+  IsNew,
+  IsBlock,
+  TreeBlockFault,
+  no_singleton,
+  duplicated,
+  breaks_rule,
+  FirstBadBlock,
+  here,
+  later,
+  HasTreeFault,
+  no_language,
+  no_identifier,
+  bad_block,
+}
+use Rattle.iloc_spec_grammar.specs.Meaning.{
+  Locale,
+  Fault,
+  InvalidLanguage,
+  InvalidSubtag,
+  InvalidExtension,
+  DuplicatedExtension,
+  SpellsIdentifier,
+  RepeatsVariant,
+}
+use Rattle.iloc_spec_grammar.specs.Reading.{
+  passing,
+  past,
+  identifier_of,
+  front_of,
+  after_front,
+  before_key,
+  extensions_in,
+  private_in,
+  written_of,
+}
+use Rattle.iloc_spec_grammar.specs.Computing.{
+  is_identifier,
+  is_block,
+  repeats_variant,
+  first_fault,
+  unless_fault,
+  locale_result,
+}
 use Rattle.iloc_spec_grammar.proofs.WordsLaws.{region_no_script, variant_no_script, variant_no_region}
 use Rattle.iloc_spec_grammar.proofs.IdentifierLaws.{pieces-identifier_of, identifier_of-pieces}
-use Rattle.iloc_spec_grammar.proofs.ReadingLaws.{all_while, take_first_passes, keep_while_passes, front_words}
-use Rattle.iloc_spec_grammar.proofs.ReadingLaws.{pieces-front_of}
-use Rattle.iloc_spec_grammar.proofs.Readings.{identifier_no_key, optional_no_key, fields_pass}
-use Rattle.iloc_spec_grammar.proofs.Readings.{before_key_read, is_no_x, head-spelling, blocks-spelling}
-use Rattle.iloc_spec_grammar.proofs.Readings.{pieces-extension_of, pieces-transform_of, written_of-spelling}
-use Rattle.iloc_spec_grammar.proofs.RuleTests.{Tests, tests_not, tests_fails, tests_denied, tests_word}
-use Rattle.iloc_spec_grammar.proofs.RuleTests.{tests_and, tests_like, tests_different, tests_nat}
-use Rattle.iloc_spec_grammar.proofs.RuleTests.{tests_spelled, tests_block, identifier_read, extension_read}
+use Rattle.iloc_spec_grammar.proofs.ReadingLaws.{
+  all_while,
+  take_first_passes,
+  keep_while_passes,
+  front_words,
+  pieces-front_of,
+}
+use Rattle.iloc_spec_grammar.proofs.Readings.{
+  identifier_no_key,
+  optional_no_key,
+  fields_pass,
+  before_key_read,
+  is_no_x,
+  head-spelling,
+  blocks-spelling,
+  pieces-extension_of,
+  pieces-transform_of,
+  written_of-spelling,
+}
+use Rattle.iloc_spec_grammar.proofs.RuleTests.{
+  Tests,
+  tests_not,
+  tests_fails,
+  tests_denied,
+  tests_word,
+  tests_and,
+  tests_like,
+  tests_different,
+  tests_nat,
+  tests_spelled,
+  tests_block,
+  identifier_read,
+  extension_read,
+}
 use Rattle.iloc_spec_grammar.proofs.PiecesLaws.{at_pieces}
 use Rattle.iloc_spec_grammar.proofs.Singletons.{tied_back, untied, two_more}
 use Rattle.iloc_spec_grammar.proofs.General.{all_of}
@@ -50,10 +187,8 @@ use Rattle.iloc_spec_grammar.proofs.ReadBack.{extension_singleton}
 pub some_repeat : {X : Type 0} (cmp : X → X → Ordering) (xs ys : List X) → AllDifferent cmp (xs ++ ys) →
     AllDifferent cmp xs
 some_repeat cmp [] ys h = tt
-some_repeat cmp (x ∷ xs) ys h = (
-  both_ways _ (or_parts _ _ (sym (list_any-append (eq_by_cmp cmp x) xs ys) ∙ false_from_ne_true _ h.0)).0,
-  some_repeat cmp xs ys h.1,
-)
+some_repeat cmp (x ∷ xs) ys h =
+    grind (arith, both_ways, or_parts, list_any-append, false_from_ne_true, some_repeat cmp xs ys h.1)
 
 -- the variants at the front of the pieces, and the pieces after them
 abbrev pub front_variants : List Text → List Text
@@ -68,7 +203,7 @@ front_are_variants ps = keep_while_passes (is_word Variant) ps
 pub front_longest : (vs rest : List Text) → AllByRecursion (IsWord Variant) vs →
     front_variants (vs ++ rest) ≡ vs ++ front_variants rest
 front_longest [] rest h = refl
-front_longest (v ∷ vs) rest h = rw h.0 (ap (λ l. v ∷ l) (front_longest vs rest h.1))
+front_longest (v ∷ vs) rest h = search (front_longest vs rest h.1)
 
 -- an identifier with variants is read from the left, whatever follows
 pub read_longer : (l : Text) (s r : Option Text) (v : Text) (vs rest : List Text) →
@@ -96,7 +231,7 @@ repeats_longer i rest h d = from i.language i.script i.region i.variants h.scrip
         (identifier_of ((l ∷ (option_to_list s ++ (option_to_list r ++ vs))) ++ rest)).variants ≡ vs ++ rest
     from l s r [] hs hr hv d = absurd (d tt)
     from l s r (v ∷ vs) hs hr hv d =
-        ap (λ (j : SpelledIdentifier). j.variants) (read_longer l s r v vs rest hs hr hv.0)
+        search read_longer
 
 pub language_of : (p : Text) (ps : List Text) → (identifier_of (p ∷ ps)).language ≡ p
 unfolding identifier_of
@@ -108,15 +243,11 @@ script_of p ps = take_first_passes (is_word Script) ps
 
 pub region_of : (p : Text) (ps : List Text) → IfSome (identifier_of (p ∷ ps)).region (IsWord Region)
 unfolding identifier_of
-region_of p ps = take_first_passes (is_word Region) (skip_first (is_word Script) ps)
+region_of p ps = search take_first_passes
 
 pub spell_cut : (i : SpelledIdentifier) →
     identifier_pieces (cut_identifier i) ++ after_variants i.variants ≡ identifier_pieces i
-spell_cut i = ap (λ l. i.language ∷ l) (append_assoc (option_to_list i.script)
-    (option_to_list i.region ++ front_variants i.variants) (after_variants i.variants)
-    ∙ ap (λ l. option_to_list i.script ++ l)
-    (append_assoc (option_to_list i.region) (front_variants i.variants) (after_variants i.variants)
-    ∙ ap (λ l. option_to_list i.region ++ l) (all_while (is_word Variant) i.variants)))
+spell_cut i = simp (append_assoc, all_while)
 
 -- the variants at the front of the pieces after a language decide
 
@@ -128,32 +259,23 @@ repeats_found T [] x = absurd (x.1 tt)
 repeats_found T (p ∷ ps) x =
     (front_of (p ∷ ps), after_front (p ∷ ps), front_words (p ∷ ps) x.0, sym (pieces-front_of p ps), x.1)
 
-front_no_repeat : (T : LanguageLengths) (ps : List Text) → RepeatsVariant T ps →
-    ¬ (AllDifferent word_cmp (map lower (front_of ps).variants))
-unfolding identifier_of front_of
-front_no_repeat T ps r d =
-    let e : (front_of ps).variants ≡ r.0.variants ++ front_variants r.1 = ap (λ l. (front_of l).variants) r.3
-    ∙ ap front_variants (repeats_longer r.0 r.1 r.2 r.4) ∙ front_longest r.0.variants r.1 r.2.variants in
-    r.4 (some_repeat word_cmp (map lower r.0.variants) _
-    (subst (AllDifferent word_cmp) (ap (map lower) e ∙ map-append lower r.0.variants (front_variants r.1)) d))
-
-tests_repeats : (T : LanguageLengths) (ps : List Text) → Tests (repeats_variant T ps) (RepeatsVariant T ps)
-tests_repeats T ps = tests_like (repeats_found T ps) (λ (r : RepeatsVariant T ps).
-    (ap (λ l. is_word (Language T) (first_piece l)) r.3 ∙ r.2.language, front_no_repeat T ps r))
-    (tests_and (tests_word (Language T) (first_piece ps))
-    (tests_denied (tests_different word_cmp (map lower (front_of ps).variants))))
+pub tests_repeats : (T : LanguageLengths) (ps : List Text) →
+    Tests (repeats_variant T ps) (RepeatsVariant T ps)
+unfolding front_of identifier_of
+tests_repeats T ps = tests_like (repeats_found T ps) (grind
+    (arith, repeats_longer, front_longest, some_repeat, map-append))
+    (search (tests_and, tests_word, tests_denied, tests_different))
 
 -- a transform whose identifier is good repeats no variant
 
 before_no_key : (xs ys : List Text) → AllByRecursion (λ p. is_word TransformKey p ≡ false) xs →
     before_key (is_word TransformKey) (xs ++ ys) ≡ xs ++ before_key (is_word TransformKey) ys
 before_no_key [] ys h = refl
-before_no_key (x ∷ xs) ys h = rw h.0 (ap (λ l. x ∷ l) (before_no_key xs ys h.1))
+before_no_key (x ∷ xs) ys h = search (before_no_key xs ys h.1)
 
 good_no_repeat : (T : LanguageLengths) (m : SpelledTransform) → IsTransformBlock T m →
     ¬ (RepeatsVariant T (transform_pieces m))
-good_no_repeat T m h r = at_id m.id h.id (sym (before_key_read (is_word TransformKey) (optional_pieces m.id)
-    m.fields (optional_no_key T m.id h.id) (fields_pass m.fields h.fields))
+good_no_repeat T m h r = at_id m.id h.id (sym (search (before_key_read, optional_no_key, fields_pass))
     ∙ ap (before_key (is_word TransformKey)) r.3
     ∙ before_no_key (identifier_pieces r.0) r.1 (identifier_no_key r.0 r.2))
   where
@@ -161,17 +283,12 @@ good_no_repeat T m h r = at_id m.id h.id (sym (before_key_read (is_word Transfor
         optional_pieces o ≡ identifier_pieces r.0 ++ before_key (is_word TransformKey) r.1 → ⊥
     at_id None g e = cc
     at_id (Some j) g e =
-        let same : j.variants ≡ r.0.variants ++ before_key (is_word TransformKey) r.1 =
-        ap (λ (i : SpelledIdentifier). i.variants) (sym (identifier_of-pieces j g.words))
-        ∙ ap (λ l. (identifier_of l).variants) e ∙ repeats_longer r.0 _ r.2 r.4 in
-        r.4 (some_repeat word_cmp (map lower r.0.variants) _
-        (subst (AllDifferent word_cmp) (ap (map lower) same ∙ map-append lower r.0.variants _) g.different))
+        grind (arith, identifier_of-pieces, repeats_longer, some_repeat, map-append)
 
-block_no_repeat : (T : LanguageLengths) (b : Block) → lower_singleton b ≡ code_t → IsBlock T b →
+pub block_no_repeat : (T : LanguageLengths) (b : Block) → lower_singleton b ≡ code_t → IsBlock T b →
     ¬ (RepeatsVariant T b.1)
 block_no_repeat T b e (inl x) r = absurd (let k = x.0 in omega arith)
-block_no_repeat T b e (inr x) r = let k = rw e at (extension_read T (lower_singleton b) b.1 x) in
-    good_no_repeat T (transform_of b.1) k.1 (rw pieces-transform_of r)
+block_no_repeat T b e (inr x) r = grind (arith, extension_read, good_no_repeat, pieces-transform_of)
 
 -- blocks one after another
 
@@ -183,7 +300,7 @@ AreGood T seen (b ∷ bs) =
 tests_variant_twice : (T : LanguageLengths) (b : Block) →
     Tests ((lower_singleton b == code_t) && repeats_variant T b.1)
     ((lower_singleton b ≡ code_t) × RepeatsVariant T b.1)
-tests_variant_twice T b = tests_and (tests_nat (lower_singleton b) code_t) (tests_repeats T b.1)
+tests_variant_twice T b = search (tests_and, tests_nat, tests_repeats)
 
 -- the plain program finds the first bad block
 
@@ -248,9 +365,7 @@ see_one s seen (e ∷ es) h n = let parts = or_parts _ _ h in
 pub unsee_one : {X : Type 0} (s : ℕ) (seen : List ℕ) (es : List (ℕ × X)) → NotSeen (s ∷ seen) es →
     (list_any (eq_by_cmp nat_cmp s) (map (λ e. lower_singleton e) es) ≡ false) × NotSeen seen es
 unsee_one s seen [] n = (refl, tt)
-unsee_one s seen (e ∷ es) n = let parts = or_parts _ _ n.0 in
-    let rest = unsee_one s seen es n.1 in
-    (or_from _ _ (tied_back (lower_singleton e) s parts.0) rest.0, (parts.1, rest.1))
+unsee_one s seen (e ∷ es) n = grind (arith, or_parts, or_from, tied_back, unsee_one s seen es n.1)
 
 pub letter : (c : ℕ) → is_ascii_alphanumeric (to_ascii_lowercase c) ≡ true → is_ascii_alphanumeric c ≡ true
 letter c h = grind (arith, nat_tests)
@@ -277,10 +392,6 @@ block_rules T (e ∷ es) x h k = (
   block_rules T es x h.1 k,
 )
 
-rule_no_x : (T : LanguageLengths) (c : ℕ) (e : Extension) → IsExtension T c e →
-    eq_by_cmp nat_cmp c code_x ≡ false
-rule_no_x T c e h = untied c code_x (λ k. eqb-false c code_x (is_no_x T c e h) (sym k))
-
 any_by : (T : LanguageLengths) (c : ℕ) (es : List (ℕ × Extension)) (x : Option Block) →
     eq_by_cmp nat_cmp c code_x ≡ false →
     list_any (eq_by_cmp nat_cmp c) (map (λ e. lower_singleton e) es) ≡ false →
@@ -288,7 +399,7 @@ any_by : (T : LanguageLengths) (c : ℕ) (es : List (ℕ × Extension)) (x : Opt
     list_any (eq_by_cmp nat_cmp c) (map (λ b. lower_singleton b) (map extension_block es ++ option_to_list x))
     ≡ false
 any_by T c [] None n a k = refl
-any_by T c [] (Some b) n a k = ap (λ d. eq_by_cmp nat_cmp c d || false) k.0 ∙ ap (λ t. t || false) n
+any_by T c [] (Some b) n a k = cc
 any_by T c (e ∷ es) x n a k = let parts = or_parts _ _ a in or_from _ _ parts.0 (any_by T c es x n parts.1 k)
 
 pub different_by : (T : LanguageLengths) (es : List (ℕ × Extension)) (x : Option Block) →
@@ -298,9 +409,14 @@ pub different_by : (T : LanguageLengths) (es : List (ℕ × Extension)) (x : Opt
     AllDifferent nat_cmp (map (λ b. lower_singleton b) (map extension_block es ++ option_to_list x))
 different_by T [] None h d k = tt
 different_by T [] (Some b) h d k = (both_ways _ refl, tt)
-different_by T (e ∷ es) x h d k = (
-  both_ways _ (any_by T (lower_singleton e) es x (rule_no_x T (lower_singleton e) e.1 h.0)
-      (false_from_ne_true _ d.0) k),
+different_by T (e ∷ es) x h d k = grind (
+  arith,
+  both_ways,
+  any_by,
+  false_from_ne_true,
+  untied,
+  eqb-false,
+  is_no_x,
   different_by T es x h.1 d.1 k,
 )
 
@@ -319,8 +435,7 @@ EndsAtX (b ∷ bs) = ((lower_singleton b == code_x) ≡ true → bs ≡ []) × E
 pub ends_at_x : (ps : List Text) → EndsAtX (blocks ps)
 ends_at_x [] = tt
 ends_at_x ([] ∷ ps) = ends_at_x ps
-ends_at_x ((c ∷ []) ∷ ps) = cond_both (to_ascii_lowercase c == code_x) _ _ EndsAtX (λ _. (λ _. refl, tt))
-    (λ e. (λ h. absurd (both_ways _ e h), ends_at_x ps))
+ends_at_x ((c ∷ []) ∷ ps) = grind (arith, cond_both, both_ways, ends_at_x ps)
 ends_at_x ((c ∷ d ∷ p) ∷ ps) = ends_at_x ps
 
 pub tail_ends : (ps : List Text) → EndsAtX (tail_blocks ps)
@@ -330,10 +445,8 @@ tail_ends (p ∷ ps) = ends_at_x ps
 pub all_blocks : (ps : List Text) → front ps ++ flat_map block_pieces (blocks ps) ≡ ps
 all_blocks [] = refl
 all_blocks ([] ∷ ps) = ap (λ l. [] ∷ l) (all_blocks ps)
-all_blocks ((c ∷ []) ∷ ps) =
-    cond_both (to_ascii_lowercase c == code_x) _ _ (λ bs. flat_map block_pieces bs ≡ (c ∷ []) ∷ ps)
-    (λ _. ap (λ l. (c ∷ []) ∷ l) (append-nil ps)) (λ _. ap (λ l. (c ∷ []) ∷ l) (all_blocks ps))
-all_blocks ((c ∷ d ∷ p) ∷ ps) = rw (two_more (length p)) (ap (λ l. (c ∷ d ∷ p) ∷ l) (all_blocks ps))
+all_blocks ((c ∷ []) ∷ ps) = grind (arith, cond_both, append-nil, all_blocks ps)
+all_blocks ((c ∷ d ∷ p) ∷ ps) = rw (two_more, all_blocks ps)
 
 pub head-and-blocks : (p : Text) (ps : List Text) →
     head (p ∷ ps) ++ flat_map block_pieces (tail_blocks (p ∷ ps)) ≡ p ∷ ps
@@ -344,15 +457,11 @@ head-and-blocks p ps = ap (λ l. p ∷ l) (all_blocks ps)
 extensions_kept : (bs : List Block) → EndsAtX bs →
     map extension_block (extensions_in bs) ++ option_to_list (private_in bs) ≡ bs
 extensions_kept [] e = refl
-extensions_kept (b ∷ bs) e = elim (cases_Bool (lower_singleton b == code_x)) [
-  | inl t ↦ rw t (ap (λ l. b ∷ l) (sym (e.0 t)))
-  | inr t ↦ rw t (λ i. (b.0, pieces-extension_of (lower_singleton b) b.1 i) ∷ extensions_kept bs e.1 i)
-]
+extensions_kept (b ∷ bs) e = grind (arith, cases_Bool, pieces-extension_of, extensions_kept bs e.1)
 
 pub spelling-written_of : (p : Text) (ps : List Text) → spelling (written_of (p ∷ ps)) ≡ p ∷ ps
 unfolding written_of
-spelling-written_of p ps = (λ i. pieces-identifier_of p (front ps) i
-    ++ flat_map block_pieces (extensions_kept (blocks ps) (ends_at_x ps) i))
+spelling-written_of p ps = (grind (arith, pieces-identifier_of, extensions_kept, ends_at_x))
     ∙ head-and-blocks p ps
 
 pub pieces-written_of : (t : Text) → pieces t ≡ spelling (written_of (pieces t))
@@ -369,21 +478,15 @@ record AreRead (T : LanguageLengths) (seen : List ℕ) (es : List (ℕ × Extens
 
 are_read : (T : LanguageLengths) (seen : List ℕ) (bs : List Block) → AreGood T seen bs →
     AreRead T seen (extensions_in bs) (private_in bs)
-are_read T seen [] g = record { rules = tt; different = tt; unseen = tt; private = tt }
+are_read T seen [] g = search
 are_read T seen (b ∷ bs) g = at_block g.0.2 (are_read T (lower_singleton b ∷ seen) bs g.1)
   where
     at_block : IsBlock T b → AreRead T (lower_singleton b ∷ seen) (extensions_in bs) (private_in bs) →
         AreRead T seen (extensions_in (b ∷ bs)) (private_in (b ∷ bs))
-    at_block (inl p) r = let t : (lower_singleton b == code_x) ≡ true = rw p.0 in
-        rw t (record { rules = tt; different = tt; unseen = tt; private = p })
+    at_block (inl p) r = grind (arith)
     at_block (inr q) r =
         let parts = unsee_one (lower_singleton b) seen (extensions_in bs) r.unseen in
-        rw (is_no_x T (lower_singleton b) q.0 q.1) (record {
-          rules = (extension_read T (lower_singleton b) b.1 q, r.rules);
-          different = (both_ways _ parts.0, r.different);
-          unseen = (g.0.1, parts.1);
-          private = r.private;
-        })
+        rw (is_no_x T (lower_singleton b) q.0 q.1) (search (extension_read, both_ways))
 
 -- good blocks make a locale
 
@@ -391,16 +494,11 @@ pub good_written : (T : LanguageLengths) (t : Text) → SpellsIdentifier T (head
     AreGood T [] (tail_blocks (pieces t)) → IsWritten T (written_of (pieces t))
 unfolding written_of
 good_written T t s g = let r = are_read T [] (tail_blocks (pieces t)) g in
-    record { id = identifier_read s; extensions = r.rules; different = r.different; private = r.private }
+    search identifier_read
 
 pub good_means : (T : LanguageLengths) (t : Text) → SpellsIdentifier T (head (pieces t)) →
     AreGood T [] (tail_blocks (pieces t)) → TreeMeans T t (meaning (written_of (pieces t)))
-good_means T t s g = record {
-  written = written_of (pieces t);
-  grammatical = good_written T t s g;
-  spelled = pieces-written_of t;
-  means = refl;
-}
+good_means T t s g = grind (arith, good_written, pieces-written_of)
 
 pub blocks_read : (ps : List Text) → blocks_of (written_of ps) ≡ tail_blocks ps
 unfolding written_of
@@ -455,10 +553,8 @@ means_answered {T = T} table t M m =
     rw (
       ap (λ ps. is_word (Language T) (first_piece ps)) m.spelled ∙ h.id.words.language,
       (tests_head T t).passes (w.id, h.id, ap head m.spelled ∙ head-spelling w h),
-      good_first T [] (tail_blocks (pieces t)) (subst (AreGood T [])
-          (sym (ap tail_blocks m.spelled ∙ blocks-spelling table w h)) (written_good w h)),
-    ) (ap Ok
-    (ap (λ ps. meaning (written_of ps)) m.spelled ∙ ap meaning (written_of-spelling table w h) ∙ sym m.means))
+      good_first T [] (tail_blocks (pieces t)) (grind (arith, blocks-spelling, written_good)),
+    ) (grind (arith, written_of-spelling))
 
 pub fault_answered : (T : LanguageLengths) (t : Text) {f : Fault} → HasTreeFault T t f →
     locale_result T t ≡ Err f
@@ -467,7 +563,7 @@ fault_answered T t (no_language e) = rw e
 fault_answered T t (no_identifier l n) = rw (l, tests_fails (tests_head T t) n)
 fault_answered T t (bad_block s b) = rw (
   at_pieces (λ ps. SpellsIdentifier T (head ps) → IsWord (Language T) (first_piece ps))
-      (λ p ps s. ap (λ l. is_word (Language T) (first_piece l)) s.2 ∙ s.1.words.language) t s,
+      (grind arith) t s,
   (tests_head T t).passes s,
   fault_first T b,
 )

@@ -1,5 +1,5 @@
 -- Lists, options and tests of any kind.
-use Rattle.std.proofs.Common.{◌≡◌, Bool, true, false, cond, List, [], ◌∷◌, map, refl, ap₂, ◌∙◌, Option, Some}
+use Rattle.std.proofs.Common.{arith, ◌≡◌, Bool, true, false, cond, List, [], ◌∷◌, map, refl, ap₂, ◌∙◌, Option, Some}
 use Rattle.std.proofs.Common.{None, IfSome, option_map}
 use Rattle.std.specs.List.{AllByRecursion, AllZip, list_all, list_any}
 use Rattle.std.proofs.lemmas.List.Folds.{list_all-map}
@@ -9,8 +9,7 @@ use Rattle.std.proofs.lemmas.Bool.{and_parts, or_from}
 -- a function goes into both branches of a test
 pub cond-map : {A B : Type 0} (f : A → B) {b c : Bool} (x y : A) {u v : B} → b ≡ c → u ≡ f x → v ≡ f y →
     cond b u v ≡ f (cond c x y)
-cond-map f {c = c} x y e p q = (λ i. cond (e i) (p i) (q i))
-    ∙ elim c as (λ d. cond d (f x) (f y) ≡ f (cond d x y)) [ true ↦ refl | false ↦ refl ]
+cond-map f {c = c} x y e p q = grind arith
 
 -- two maps, one after the other
 pub map-then : {X Y Z : Type 0} (g : Y → Z) (f : X → Y) (h : X → Z) → ((x : X) → g (f x) ≡ h x) →
@@ -25,7 +24,7 @@ option_map-then g f h e (Some x) = λ i. Some (e x i)
 -- a test after a map
 pub list_all-mapped : {X Y : Type 0} (test : Y → Bool) (f : X → Y) (own : X → Bool) →
     ((x : X) → test (f x) ≡ own x) → (xs : List X) → list_all test (map f xs) ≡ list_all own xs
-list_all-mapped test f own e xs = list_all-map test f xs ∙ (λ i. list_all (λ x. e x i) xs)
+list_all-mapped test f own e xs = grind (arith, list_all-map)
 
 -- where each item passes one test, and such items fail another, none passes that
 pub none_passes : {X : Type 0} (f g : X → Bool) → ((x : X) → f x ≡ true → g x ≡ false) → (xs : List X) →

@@ -1,20 +1,44 @@
 -- Texts of identifiers: reading them back, the two steps between texts of one meaning, and faults.
 use Rattle.std.proofs.Common.{◌≡◌, ◌⊎◌, ℕ, ◌+◌, Bool, true, false, cond, not, List, ◌∷◌, length, refl, sym}
-use Rattle.std.proofs.Common.{ap, ◌∙◌, subst, arith, ◌↔◌, true≢false, Result, Ok, Err, MatchResult}
-use Rattle.iloc_spec_grammar.specs.Syntax.{LanguageLengths, Text, pieces, join, Language, is_word, lower}
-use Rattle.iloc_spec_grammar.specs.Syntax.{Stage, IdentifierOf}
-use Rattle.iloc_spec_grammar.specs.Syntax.{SpelledIdentifier, Identifier, identifier_pieces, HasWords}
-use Rattle.iloc_spec_grammar.specs.Syntax.{first_piece, head, front}
-use Rattle.iloc_spec_grammar.specs.Meaning.{normal_identifier, IdentifierMeans, Fault, InvalidLanguage}
-use Rattle.iloc_spec_grammar.specs.Meaning.{InvalidSubtag, HasIdentifierFault, not_a_language}
-use Rattle.iloc_spec_grammar.specs.Meaning.{not_an_identifier}
+use Rattle.std.proofs.Common.{ap, ◌∙◌, arith, ◌↔◌, true≢false, Result, Ok, Err, MatchResult}
+use Rattle.iloc_spec_grammar.specs.Syntax.{
+  LanguageLengths,
+  Text,
+  pieces,
+  join,
+  Language,
+  is_word,
+  lower,
+  Stage,
+  IdentifierOf,
+  SpelledIdentifier,
+  Identifier,
+  identifier_pieces,
+  HasWords,
+  head,
+  front,
+}
+use Rattle.iloc_spec_grammar.specs.Meaning.{
+  normal_identifier,
+  IdentifierMeans,
+  Fault,
+  InvalidLanguage,
+  InvalidSubtag,
+  HasIdentifierFault,
+  not_a_language,
+  not_an_identifier,
+}
 use Rattle.iloc_spec_grammar.specs.Values.{IsIdentifierValue, lower_identifier, identifier_text}
 use Rattle.iloc_spec_grammar.specs.Tree.{spelled_identifier}
 use Rattle.iloc_spec_grammar.specs.TreeSteps.{TreeIdentifierTextStep}
 use Rattle.iloc_spec_grammar.proofs.WordsLaws.{length-lower}
 use Rattle.iloc_spec_grammar.proofs.PiecesLaws.{pieces-join, join-pieces, at_pieces}
-use Rattle.iloc_spec_grammar.proofs.IdentifierLaws.{pieces-identifier_of, identifier_of-pieces}
-use Rattle.iloc_spec_grammar.proofs.IdentifierLaws.{one_identifier, one_meaning}
+use Rattle.iloc_spec_grammar.proofs.IdentifierLaws.{
+  pieces-identifier_of,
+  identifier_of-pieces,
+  one_identifier,
+  one_meaning,
+}
 use Rattle.iloc_spec_grammar.specs.Reading.{identifier_of}
 use Rattle.iloc_spec_grammar.proofs.ValuesLaws.{identifier_reads_back, normal-lower_identifier, value_words}
 use Rattle.iloc_spec_grammar.proofs.WellRead.{identifier_value}
@@ -39,13 +63,13 @@ pieces-identifier_text i h = pieces-join i.language _ (identifier_hyphen_free i 
 pub identifier_means_value : {T : ℕ → Bool} (ps : List Text) (i : Identifier) → IdentifierMeans T ps i →
     IsIdentifierValue T i
 identifier_means_value {T = T} ps i m =
-    subst (IsIdentifierValue T) (sym m.means) (identifier_value m.written m.grammatical.words)
+    rw m.means (identifier_value m.written m.grammatical.words)
 
 pub identifier_text_means : {T : ℕ → Bool} (i : Identifier) → IsIdentifierValue T i →
     IdentifierMeans T (pieces (identifier_text i)) i
 unfolding identifier_text
-identifier_text_means {T = T} i h = subst (λ (ps : List Text). IdentifierMeans T ps i)
-    (sym (pieces-identifier_text (spelled_identifier i) (value_words h))) (identifier_reads_back i h)
+identifier_text_means {T = T} i h = rw (pieces-identifier_text (spelled_identifier i) (value_words h))
+    (identifier_reads_back i h)
 
 -- the normal text of a meaning means it
 pub identifier_means_again : {T : ℕ → Bool} (ps : List Text) (i : Identifier) → IdentifierMeans T ps i →
@@ -55,7 +79,7 @@ identifier_means_again ps i m = identifier_text_means i (identifier_means_value 
 pub same_identifier_text : {T : ℕ → Bool} (i j : Identifier) → IsIdentifierValue T i → IsIdentifierValue T j →
     identifier_text i ≡ identifier_text j → i ≡ j
 same_identifier_text {T = T} i j h k e = one_meaning (pieces (identifier_text j)) i j
-    (subst (λ (t : Text). IdentifierMeans T (pieces t) i) e (identifier_text_means i h))
+    (rw e at (identifier_text_means i h))
     (identifier_text_means j k)
 
 -- identifiers mean the same exactly where their normal texts are equal
@@ -63,7 +87,7 @@ pub same_identifier_meaning : {T : ℕ → Bool} (ps qs : List Text) (i j : Iden
     IdentifierMeans T ps i → IdentifierMeans T qs j → (i ≡ j) ↔ (identifier_text i ≡ identifier_text j)
 same_identifier_meaning ps qs i j m n = (
   λ e. ap identifier_text e,
-  λ e. same_identifier_text i j (identifier_means_value ps i m) (identifier_means_value qs j n) e,
+  search (same_identifier_text, identifier_means_value),
 )
 
 -- a step keeps the meaning
@@ -76,17 +100,27 @@ case_means T t u i e m =
     let v_is : identifier_of (pieces t) ≡ v =
     ap identifier_of m.spelled ∙ identifier_of-pieces v m.grammatical.words in
     let same : lower_identifier v ≡ lower_identifier w =
-    ap lower_identifier (sym v_is) ∙ sym (identifier_of-low (pieces t))
-    ∙ ap identifier_of (sym (pieces-lower t) ∙ ap pieces e ∙ pieces-lower u) ∙ identifier_of-low (pieces u) in
+    cc (
+      v_is,
+      identifier_of-low (pieces t),
+      pieces-lower t,
+      e,
+      pieces-lower u,
+      identifier_of-low (pieces u),
+    ) in
     record {
       written = w;
       grammatical =
-          (tests_identifier T w).holds (sym (is_identifier-low T w) ∙ ap (is_identifier T) (sym same)
-          ∙ is_identifier-low T v ∙ (tests_identifier T v).passes m.grammatical);
+          (tests_identifier T w).holds (cc (
+            is_identifier-low T w,
+            same,
+            is_identifier-low T v,
+            (tests_identifier T v).passes m.grammatical,
+          ));
       spelled = at_pieces (λ ps. ps ≡ identifier_pieces (identifier_of ps))
           (λ p ps. sym (pieces-identifier_of p ps)) u;
       means =
-          m.means ∙ sym (normal-lower_identifier v) ∙ ap normal_identifier same ∙ normal-lower_identifier w;
+          cc (m.means, normal-lower_identifier v, same, normal-lower_identifier w);
     }
 
 pub identifier_text_step_means : (T : LanguageLengths) (t u : Text) (i : Identifier) →
@@ -94,14 +128,7 @@ pub identifier_text_step_means : (T : LanguageLengths) (t u : Text) (i : Identif
 identifier_text_step_means T t u i (TreeIdentifierTextStep.letter_case e) m = case_means T t u i e m
 identifier_text_step_means T t u i (TreeIdentifierTextStep.variant_order {i = v} {j = w} h e s) m =
     let p = identifier_step s h in
-    record {
-      written = w;
-      grammatical = p.0;
-      spelled = pieces-identifier_text w p.0.words;
-      means = m.means
-          ∙ ap normal_identifier (one_identifier m.written v m.grammatical.words h.words (sym m.spelled ∙ e))
-          ∙ sym p.1;
-    }
+    grind (arith, pieces-identifier_text, one_identifier)
 
 -- and the length
 
@@ -111,19 +138,16 @@ length-identifier_text i = length-join i.language _
 
 pub identifier_text_step_length : (T : LanguageLengths) (t u : Text) → TreeIdentifierTextStep T t u →
     length u ≡ length t
-identifier_text_step_length T t u (TreeIdentifierTextStep.letter_case e) =
-    sym (length-lower u) ∙ ap length (sym e) ∙ length-lower t
+identifier_text_step_length T t u (TreeIdentifierTextStep.letter_case e) = grind (arith, length-lower)
 identifier_text_step_length T t u (TreeIdentifierTextStep.variant_order {i = v} {j = w} h e s) =
     let a = length-identifier_text v in
-    let b = length-identifier_text w in let c = identifier_size piece_length s in
-    let d : length t ≡ length (join (identifier_pieces v)) = ap length (sym (join-pieces t) ∙ ap join e) in
-    omega arith
+    grind (arith, length-identifier_text, identifier_size, piece_length, join-pieces)
 
 -- texts in one order differ in case alone
 
 pub lower-identifier_text : {s : Stage} (i : IdentifierOf s) →
     lower (join (identifier_pieces i)) ≡ join (identifier_pieces (lower_identifier i))
-lower-identifier_text i = lower-join (identifier_pieces i) ∙ ap join (sym (identifier_pieces-low i))
+lower-identifier_text i = rw (lower-join, identifier_pieces-low)
 
 -- a meaning, or one fault
 
@@ -150,16 +174,14 @@ identifier_answers T p ps =
 
 pub identifier_apart : {T : ℕ → Bool} (ps : List Text) (i : Identifier) (f : Fault) →
     IdentifierMeans T ps i → HasIdentifierFault T ps f → ⊥
-identifier_apart {T = T} ps i f h (not_a_language e) = true≢false (sym h.grammatical.words.language
-    ∙ ap (λ (l : List Text). is_word (Language T) (first_piece l)) (sym h.spelled) ∙ e)
-identifier_apart ps i f h (not_an_identifier l n) = n (h.written, h.grammatical, h.spelled)
+identifier_apart {T = T} ps i f h (not_a_language e) = cc
+identifier_apart ps i f h (not_an_identifier l n) = search
 
 pub one_identifier_fault : {T : ℕ → Bool} (ps : List Text) {f g : Fault} → HasIdentifierFault T ps f →
     HasIdentifierFault T ps g → f ≡ g
-one_identifier_fault ps (not_a_language e) (not_a_language k) = refl
 one_identifier_fault ps (not_a_language e) (not_an_identifier k n) = absurd (true≢false (sym k ∙ e))
 one_identifier_fault ps (not_an_identifier l n) (not_a_language e) = absurd (true≢false (sym l ∙ e))
-one_identifier_fault ps (not_an_identifier l n) (not_an_identifier k m) = refl
+one_identifier_fault ps _ _ = refl
 
 pub text_identifier_or_fault : (T : LanguageLengths) (t : Text) →
     ((i : Identifier) × IdentifierMeans T (pieces t) i) ⊎ ((f : Fault) × HasIdentifierFault T (pieces t) f)

@@ -1,16 +1,21 @@
 -- The tests of what a step does to a list.
 use Rattle.std.proofs.Common.{◌≡◌, ◌⊎◌, inl, inr, ℕ, ◌+◌, ◌<◌, Bool, true, false, cond, ◌||◌, List, [], ◌∷◌}
-use Rattle.std.proofs.Common.{refl, sym, ap, subst, arith, true≢false}
+use Rattle.std.proofs.Common.{refl, sym, subst, arith, true≢false}
 use Rattle.std.specs.List.{list_any, AllZip}
 use Rattle.std.proofs.lemmas.Bool.{and_parts, and_from}
 use Rattle.iloc_spec_grammar.specs.Syntax.{Text, lower}
-use Rattle.iloc_spec_grammar.specs.Values.{Reordered}
-use Rattle.iloc_spec_grammar.specs.Values.{Without, WithoutRepeats}
+use Rattle.iloc_spec_grammar.specs.Values.{Reordered, Without, WithoutRepeats}
 use Rattle.iloc_spec_grammar.proofs.Orders.{total, total_reordered}
 use Rattle.iloc_spec_grammar.proofs.Sorting.{itself}
 use Rattle.iloc_spec_grammar.proofs.RuleTests.{Tests, tests_and, tests_either, tests_like}
-use Rattle.iloc_spec_grammar.specs.StepTests.{all_zip, take_out, is_reordered, is_without, was_seen}
-use Rattle.iloc_spec_grammar.specs.StepTests.{is_without_repeats}
+use Rattle.iloc_spec_grammar.specs.StepTests.{
+  all_zip,
+  take_out,
+  is_reordered,
+  is_without,
+  was_seen,
+  is_without_repeats,
+}
 use Rattle.iloc_spec_grammar.proofs.Equality.{Equality, never}
 
 tests_itself : (b : Bool) → Tests b (b ≡ true)
@@ -57,7 +62,7 @@ module _ {X : Type 0} (same : X → X → Bool) (q : Equality same) where
       ]) h
 
   at_itself : (x : X) → at_one x x ≡ 1
-  at_itself x = let e : same x x ≡ true = (q x x).passes refl in ap (λ (b : Bool). cond b 1 0) e
+  at_itself x = grind arith
 
   -- where each item occurs as often in both lists, they have the same items
   reordered_from_occurrences : (xs ys : List X) → ((z : X) → occurrences z ys ≡ occurrences z xs) →
@@ -72,10 +77,7 @@ module _ {X : Type 0} (same : X → X → Bool) (q : Equality same) where
       found = any_from_occurrences x ys (let a = h x in let b = at_itself x in omega arith)
 
   pub tests_reordered : (xs ys : List X) → Tests (is_reordered same xs ys) (Reordered xs ys)
-  tests_reordered xs ys = record {
-    holds = reordered_holds xs ys;
-    passes = λ r. reordered_from_occurrences xs ys (λ z. total_reordered (at_one z) r);
-  }
+  tests_reordered xs ys = search (reordered_holds, reordered_from_occurrences, total_reordered)
 
   -- some items left out
 
@@ -103,8 +105,17 @@ module _ {X : Type 0} (same : X → X → Bool) (q : Equality same) where
         tests_like (λ (p : (test x ≡ true) × Without test xs []). Without.left_out p.0 p.1)
         last_without (tests_and (tests_itself (test x)) (tests_without xs []))
     tests_without (x ∷ xs) (y ∷ ys) =
-        tests_like without_next next_without (tests_either (tests_and (q x y) (tests_without xs ys))
-        (tests_and (tests_itself (test x)) (tests_without xs (y ∷ ys))))
+        grind (
+          arith,
+          tests_like,
+          without_next,
+          next_without,
+          tests_either,
+          tests_and,
+          tests_itself,
+          tests_without xs ys,
+          tests_without xs (y ∷ ys),
+        )
 
   -- repeats left out
 
@@ -135,6 +146,15 @@ module _ {X : Type 0} (same : X → X → Bool) (q : Equality same) where
     tests_without_repeats seen (x ∷ xs) [] = tests_like (λ
         (p : (was_seen key seen x ≡ true) × WithoutRepeats key seen xs []). WithoutRepeats.left_out p.0 p.1)
         last_repeats (tests_and (tests_itself (was_seen key seen x)) (tests_without_repeats seen xs []))
-    tests_without_repeats seen (x ∷ xs) (y ∷ ys) = tests_like repeats_next next_repeats
-        (tests_either (tests_and (q x y) (tests_without_repeats (lower (key x) ∷ seen) xs ys))
-        (tests_and (tests_itself (was_seen key seen x)) (tests_without_repeats seen xs (y ∷ ys))))
+    tests_without_repeats seen (x ∷ xs) (y ∷ ys) =
+        grind (
+          arith,
+          tests_like,
+          repeats_next,
+          next_repeats,
+          tests_either,
+          tests_and,
+          tests_itself,
+          tests_without_repeats (lower (key x) ∷ seen) xs ys,
+          tests_without_repeats seen xs (y ∷ ys),
+        )

@@ -1,15 +1,21 @@
 -- The map of a list of entries, and the set of a list of words.
-use Rattle.std.proofs.Common.{◌≡◌, Bool, true, false, cond, ◌||◌, T, List, [], ◌∷◌, map, refl, sym, ap}
-use Rattle.std.proofs.Common.{◌∙◌, subst, Some, true≢false}
+use Rattle.std.proofs.Common.{arith, ◌≡◌, Bool, true, false, cond, ◌||◌, T, List, [], ◌∷◌, map, refl, sym, ap}
+use Rattle.std.proofs.Common.{◌∙◌, Some, true≢false}
 use Rattle.std.specs.List.{AllByRecursion, list_any}
 use Rattle.std.specs.Ordering.{is_lt, is_eq, eq_by_cmp}
 use Rattle.std.specs.declared.cmp.Ordering.{Ordering}
 use Rattle.std.specs.declared.cmp.Ordering.TheVariants.{Less, Equal, Greater}
 use Rattle.std.specs.Cmp.{IsTotalOrder, Equal-is, tied_itself}
 use Rattle.std.specs.Cmp.Lexicographic.{nat_list_cmp_total}
-use Rattle.std.specs.FinMap.{put, find, is_sorted, IsAntisymmetric, nat_cmp-IsAntisymmetric}
-use Rattle.std.specs.FinMap.{slice_cmp-IsAntisymmetric}
-use Rattle.std.specs.FinMap.Entries.{by_order, below_all, is_sorted-put, find-put, same_entries}
+use Rattle.std.specs.FinMap.{
+  put,
+  find,
+  is_sorted,
+  IsAntisymmetric,
+  nat_cmp-IsAntisymmetric,
+  slice_cmp-IsAntisymmetric,
+}
+use Rattle.std.specs.FinMap.Entries.{below_all, is_sorted-put, find-put, same_entries}
 use Rattle.std.proofs.lemmas.Bool.{and_parts, both_ways}
 use Rattle.iloc_spec_grammar.specs.Syntax.{Text, word_cmp, is_same, AllDifferent}
 use Rattle.iloc_spec_grammar.specs.Meaning.{map_of}
@@ -36,8 +42,7 @@ less Greater p = absurd (true≢false (sym p))
 module _ {K X : Type 0} (R : K → K → Ordering) where
   put_first : (k : K) (v : X) (es : List (K × X)) → below_all R k es ≡ true → put R k v es ≡ (k, v) ∷ es
   put_first k v [] h = refl
-  put_first k v (e ∷ es) h =
-      ap (λ r. by_order r ((k, v) ∷ e ∷ es) ((e.0, v) ∷ es) (e ∷ put R k v es)) (less _ (and_parts _ _ h).0)
+  put_first k v (e ∷ es) h = grind (arith, less, and_parts)
 
   -- a list in order is its own map
   pub map_of_sorted : (es : List (K × X)) → is_sorted R es ≡ true → map_of R es ≡ es
@@ -68,18 +73,12 @@ module _ {K X : Type 0} (R : K → K → Ordering) where
   pub all-put : IsAntisymmetric R → (P : K × X → Type 0) (k : K) (v : X) (es : List (K × X)) → P (k, v) →
       AllByRecursion P es → AllByRecursion P (put R k v es)
   all-put same P k v [] p h = (p, tt)
-  all-put same P k v (e ∷ es) p h =
-      elim (R k e.0) as (λ r.
-      R k e.0 ≡ r → AllByRecursion P (by_order r ((k, v) ∷ e ∷ es) ((e.0, v) ∷ es) (e ∷ put R k v es))) [
-        | Less ↦ λ e. (p, h)
-        | Equal ↦ λ tie. (subst (λ (x : K). P (x, v)) (same k e.0 tie) p, h.1)
-        | Greater ↦ λ e. (h.0, all-put same P k v es p h.1)
-      ] refl
+  all-put same P k v (e ∷ es) p h = grind (arith, all-put same P k v es p h.1)
 
   pub all-map_of : IsAntisymmetric R → (P : K × X → Type 0) (es : List (K × X)) → AllByRecursion P es →
       AllByRecursion P (map_of R es)
   all-map_of same P [] h = tt
-  all-map_of same P (e ∷ es) h = all-put same P e.0 e.1 (map_of R es) h.0 (all-map_of same P es h.1)
+  all-map_of same P (e ∷ es) h = search (all-put, all-map_of same P es h.1)
 
   -- the keys of a list in order differ
   below_differs : (k : K) (es : List (K × X)) → below_all R k es ≡ true →

@@ -1,16 +1,15 @@
 -- Lists in another order: how one is reached, and what stays. Lists without some items: what stays.
 use Rattle.std.proofs.Common.{◌≡◌, ℕ, suc, ◌+◌, ◌≤◌, Bool, true, false, cond, ◌||◌, List, [], ◌∷◌, ◌++◌}
-use Rattle.std.proofs.Common.{length, map, filter, refl, sym, ap, ◌∙◌, arith, Some, true≢false, le_refl}
+use Rattle.std.proofs.Common.{length, map, filter, refl, ap, ◌∙◌, arith, true≢false, le_refl}
 use Rattle.std.specs.List.{AllByRecursion, list_any, AllZip}
 use Rattle.std.specs.Ordering.{eq_by_cmp}
-use Rattle.std.specs.Cmp.{IsTotalOrder, eq_by_cmp_equiv}
+use Rattle.std.specs.Cmp.{IsTotalOrder}
 use Rattle.std.specs.declared.cmp.Ordering.{Ordering}
 use Rattle.std.specs.FinMap.{find}
 use Rattle.std.proofs.lemmas.Bool.{or_parts, or_from, false_from_ne_true, both_ways}
 use Rattle.iloc_spec_grammar.specs.Syntax.{Text, word_cmp, is_same, lower, AllDifferent}
 use Rattle.iloc_spec_grammar.specs.Meaning.{map_of, set_of}
-use Rattle.iloc_spec_grammar.specs.Values.{Reordered}
-use Rattle.iloc_spec_grammar.specs.Values.{Without, WithoutRepeats}
+use Rattle.iloc_spec_grammar.specs.Values.{Reordered, Without, WithoutRepeats}
 use Rattle.iloc_spec_grammar.proofs.MapLaws.{map_of_same, word_cmp_total, same_words}
 use Rattle.iloc_spec_grammar.proofs.SetLaws.{same_set}
 use Rattle.std.proofs.lemmas.Map.Steps.{list_any_congr}
@@ -56,10 +55,9 @@ first_last x [] = itself (x ∷ [])
 first_last x (y ∷ xs) = Reordered.in_turn Reordered.first_two (Reordered.front_kept (first_last x xs))
 
 pub length_reordered : {X : Type 0} {xs ys : List X} → Reordered xs ys → length xs ≡ length ys
-length_reordered Reordered.none = refl
 length_reordered (Reordered.front_kept r) = ap suc (length_reordered r)
-length_reordered Reordered.first_two = refl
 length_reordered (Reordered.in_turn r s) = length_reordered r ∙ length_reordered s
+length_reordered _ = refl
 
 pub filter_reordered : {X : Type 0} (test : X → Bool) {xs ys : List X} → Reordered xs ys →
     Reordered (filter test xs) (filter test ys)
@@ -87,8 +85,7 @@ filter_reordered test (Reordered.in_turn r s) =
 
 pub or_swap : (a b c : Bool) → (a || (b || c)) ≡ (b || (a || c))
 or_swap true true c = refl
-or_swap true false c = refl
-or_swap false b c = refl
+or_swap _ _ c = refl
 
 pub any_reordered : {X : Type 0} (test : X → Bool) {xs ys : List X} → Reordered xs ys →
     list_any test xs ≡ list_any test ys
@@ -101,35 +98,28 @@ any_reordered test (Reordered.in_turn r s) = any_reordered test r ∙ any_reorde
 pub different_reordered : {X : Type 0} (R : X → X → Ordering) → IsTotalOrder R → {xs ys : List X} →
     Reordered xs ys → AllDifferent R xs → AllDifferent R ys
 different_reordered R o Reordered.none h = tt
-different_reordered R o (Reordered.front_kept {x = x} r) h = (
-  both_ways _ (sym (any_reordered (eq_by_cmp R x) r) ∙ false_from_ne_true _ h.0),
-  different_reordered R o r h.1,
-)
+different_reordered R o (Reordered.front_kept {x = x} r) h =
+    grind (arith, both_ways, any_reordered, false_from_ne_true, different_reordered R o r h.1)
 different_reordered R o (Reordered.first_two {x = x} {y = y}) h =
-    let parts = or_parts _ _ (false_from_ne_true _ h.0) in (
-      both_ways _ (or_from _ _ ((eq_by_cmp_equiv o).symm y x ∙ parts.0) (false_from_ne_true _ h.1.0)),
-      (both_ways _ parts.1, h.1.1),
-    )
+    grind (arith, or_parts, false_from_ne_true, both_ways, or_from)
 different_reordered R o (Reordered.in_turn r s) h = different_reordered R o s (different_reordered R o r h)
 
 -- a test that holds of one of two that differ fails at the other
 apart : {K : Type 0} (R : K → K → Ordering) → IsTotalOrder R → (q x y : K) → eq_by_cmp R x y ≡ false →
     eq_by_cmp R q x ≡ true → eq_by_cmp R q y ≡ false
-apart R o q x y d t = sym ((eq_by_cmp_equiv o).congr x q y ((eq_by_cmp_equiv o).symm x q ∙ t)) ∙ d
+apart R o q x y d t = grind arith
 
 swap_conds : {A : Type 0} (a b : Bool) (x y z : A) → (a ≡ true → b ≡ false) →
     cond a x (cond b y z) ≡ cond b y (cond a x z)
 swap_conds true true x y z h = absurd (true≢false (h refl))
-swap_conds true false x y z h = refl
-swap_conds false b x y z h = refl
+swap_conds _ _ x y z h = refl
 
 pub find_reordered : {K X : Type 0} (R : K → K → Ordering) → IsTotalOrder R → (q : K) →
     {es fs : List (K × X)} → Reordered es fs → AllDifferent R (map (λ e. e.0) es) → find R q es ≡ find R q fs
 find_reordered R o q Reordered.none h = refl
-find_reordered R o q (Reordered.front_kept {x = x} r) h =
-    ap (cond (eq_by_cmp R q x.0) (Some x.1)) (find_reordered R o q r h.1)
-find_reordered R o q (Reordered.first_two {x = x} {y = y}) h = swap_conds (eq_by_cmp R q x.0)
-    (eq_by_cmp R q y.0) _ _ _ (apart R o q x.0 y.0 (or_parts _ _ (false_from_ne_true _ h.0)).0)
+find_reordered R o q (Reordered.front_kept {x = x} r) h = simp (find_reordered R o q r h.1)
+find_reordered R o q (Reordered.first_two {x = x} {y = y}) h =
+    grind (arith, swap_conds, apart, or_parts, false_from_ne_true)
 find_reordered R o q (Reordered.in_turn r s) h =
     find_reordered R o q r h ∙ find_reordered R o q s (different_reordered R o (map_reordered (λ e. e.0) r) h)
 
@@ -139,11 +129,6 @@ set_of_reordered r = same_set _ _ (λ q. any_reordered (is_same q) r)
 
 -- the later of equal keys are never found
 
-not_tied : {K : Type 0} (R : K → K → Ordering) → IsTotalOrder R → (q x : K) (seen : List K) →
-    list_any (eq_by_cmp R x) seen ≡ true → list_any (eq_by_cmp R q) seen ≡ false → eq_by_cmp R q x ≡ false
-not_tied R o q x seen h n =
-    false_from_ne_true _ (λ e. both_ways _ n (list_any_congr (eq_by_cmp_equiv o) q x seen e ∙ h))
-
 pub find_repeats : {X Y : Type 0} (key : X → Text) (value : X → Y) (q : Text) {seen : List Text}
     {xs ys : List X} →
     WithoutRepeats key seen xs ys → list_any (eq_by_cmp word_cmp q) seen ≡ false →
@@ -151,28 +136,16 @@ pub find_repeats : {X Y : Type 0} (key : X → Text) (value : X → Y) (q : Text
     ≡ find word_cmp q (map (λ x. (lower (key x), value x)) ys)
 find_repeats key value q WithoutRepeats.none n = refl
 find_repeats {X = X} {Y = Y} key value q (WithoutRepeats.stays {seen = seen} {x = x} {xs = xs} {ys = ys} r)
-    n = at_test (eq_by_cmp word_cmp q (lower (key x))) refl (find_repeats key value q r)
-  where
-    at_test : (b : Bool) → eq_by_cmp word_cmp q (lower (key x)) ≡ b →
-        (list_any (eq_by_cmp word_cmp q) (lower (key x) ∷ seen) ≡ false →
-        find word_cmp q (map (λ x. (lower (key x), value x)) xs)
-        ≡ find word_cmp q (map (λ x. (lower (key x), value x)) ys)) →
-        cond b (Some (value x)) (find word_cmp q (map (λ x. (lower (key x), value x)) xs))
-        ≡ cond b (Some (value x)) (find word_cmp q (map (λ x. (lower (key x), value x)) ys))
-    at_test true e f = refl
-    at_test false e f = f (or_from _ _ e n)
-find_repeats key value q (WithoutRepeats.left_out {seen = seen} {x = x} {xs = xs} h r) n =
-    ap (λ b. cond b (Some (value x)) (find word_cmp q (map (λ x. (lower (key x), value x)) xs)))
-    (not_tied word_cmp word_cmp_total q (lower (key x)) seen h n)
-    ∙ find_repeats key value q r n
+    n = grind (arith, or_from, find_repeats key value q r)
+find_repeats key value q (WithoutRepeats.left_out {seen = seen} {x = x} {xs = xs} h r) n = grind
+    (arith, word_cmp_total, false_from_ne_true, both_ways, list_any_congr, find_repeats key value q r n)
 
 pub map_repeats : {X Y : Type 0} (key : X → Text) (value : X → Y) {xs ys : List X} →
     WithoutRepeats key [] xs ys →
     map_of word_cmp (map (λ x. (lower (key x), value x)) xs)
     ≡ map_of word_cmp (map (λ x. (lower (key x), value x)) ys)
 map_repeats key value {xs = xs} {ys = ys} r =
-    map_of_same word_cmp word_cmp_total same_words (map (λ x. (lower (key x), value x)) xs)
-    (map (λ x. (lower (key x), value x)) ys) (λ q. find_repeats key value q r refl)
+    grind (arith, map_of_same, word_cmp_total, same_words, find_repeats)
 
 pub all_repeats : {X : Type 0} (P : X → Type 0) (key : X → Text) {seen : List Text} {xs ys : List X} →
     WithoutRepeats key seen xs ys → AllByRecursion P xs → AllByRecursion P ys
@@ -190,10 +163,9 @@ all_without P test (Without.left_out e r) h = all_without P test r h.1
 pub filter_without : {X : Type 0} (test keep : X → Bool) → ((x : X) → test x ≡ true → keep x ≡ false) →
     {xs ys : List X} → Without test xs ys → filter keep xs ≡ filter keep ys
 filter_without test keep f Without.none = refl
-filter_without test keep f (Without.stays {x = x} r) =
-    ap (λ l. cond (keep x) (x ∷ l) l) (filter_without test keep f r)
+filter_without test keep f (Without.stays {x = x} r) = simp (filter_without test keep f r)
 filter_without test keep f (Without.left_out {x = x} {xs = xs} e r) =
-    ap (λ b. cond b (x ∷ filter keep xs) (filter keep xs)) (f x e) ∙ filter_without test keep f r
+    grind (arith, filter_without test keep f r)
 
 -- sums over the items
 
@@ -226,5 +198,5 @@ total_repeats f key (WithoutRepeats.left_out e r) = let l = total_repeats f key 
 pub total_zip : {X : Type 0} (f : X → ℕ) (R : X → X → Type 0) → ((x y : X) → R x y → f y ≤ f x) →
     (xs ys : List X) → AllZip R xs ys → total f ys ≤ total f xs
 total_zip f R g [] [] z = le_refl 0
-total_zip f R g (x ∷ xs) (y ∷ ys) z = let a = g x y z.0 in let b = total_zip f R g xs ys z.1 in omega arith
+total_zip f R g (x ∷ xs) (y ∷ ys) z = grind (arith, total_zip f R g xs ys z.1)
 total_zip f R g _ _ z = absurd z

@@ -1,20 +1,46 @@
 -- Texts of parts: the text of a locale is the join of its parts.
-use Rattle.std.proofs.Common.{◌≡◌, ℕ, ◌+◌, ◌<◌, ◌≤◌, arith, get_or, Bool, true, false, cond, ◌||◌, List, []}
+use Rattle.std.proofs.Common.{◌≡◌, ℕ, ◌+◌, ◌<◌, ◌≤◌, arith, get_or, cond, ◌||◌, List, []}
 use Rattle.std.proofs.Common.{◌∷◌, ◌++◌, length, map, flat_map, refl, sym, ap, ◌∙◌, Option, Some, None}
-use Rattle.std.proofs.Common.{option_map, option_to_list, is_some, nat_le, nat_lt, append_assoc, append-nil}
+use Rattle.std.proofs.Common.{option_map, option_to_list, is_some, nat_lt, append_assoc, append-nil}
 use Rattle.std.proofs.lemmas.Bool.{lt-ltb}
 use Rattle.std.proofs.lemmas.List.{map-append}
 use Rattle.std.proofs.lemmas.List.Concat.{flat_map-append}
-use Rattle.iloc_spec_grammar.specs.Syntax.{Block, code_x, code_u, code_t, Text, join, dashes, lower, Stage}
-use Rattle.iloc_spec_grammar.specs.Syntax.{IdentifierOf, Identifier, Unicode}
-use Rattle.iloc_spec_grammar.specs.Syntax.{Transform, Fields, identifier_pieces, optional_pieces}
-use Rattle.iloc_spec_grammar.specs.Syntax.{fields_pieces, unicode_pieces, transform_pieces}
+use Rattle.iloc_spec_grammar.specs.Syntax.{
+  Block,
+  code_x,
+  code_u,
+  code_t,
+  Text,
+  join,
+  dashes,
+  lower,
+  Stage,
+  IdentifierOf,
+  Identifier,
+  Unicode,
+  Transform,
+  Fields,
+  identifier_pieces,
+  optional_pieces,
+  fields_pieces,
+  unicode_pieces,
+  transform_pieces,
+}
 use Rattle.iloc_spec_grammar.specs.Tree.{before_t, after_t, spelled_transform}
 use Rattle.iloc_spec_grammar.specs.Meaning.{Locale, Extensions}
-use Rattle.iloc_spec_grammar.specs.Values.{lower_identifier, spelled_fields, printed_pieces, transform_block}
-use Rattle.iloc_spec_grammar.specs.Values.{before_above, text, unicode_spelling, transform_spelling}
-use Rattle.iloc_spec_grammar.specs.Values.{other_spelling, private_spelling, extensions_spelling}
-use Rattle.iloc_spec_grammar.specs.Values.{identifier_text}
+use Rattle.iloc_spec_grammar.specs.Values.{
+  lower_identifier,
+  spelled_fields,
+  printed_pieces,
+  before_above,
+  text,
+  unicode_spelling,
+  transform_spelling,
+  other_spelling,
+  private_spelling,
+  extensions_spelling,
+  identifier_text,
+}
 
 -- joins
 
@@ -39,15 +65,14 @@ pub dashes-append : (ps qs : List Text) → dashes (ps ++ qs) ≡ dashes ps ++ d
 dashes-append ps qs = flat_map-append (λ (p : Text). 45 ∷ p) ps qs
 
 pub join-append : (p : Text) (ps qs : List Text) → join ((p ∷ ps) ++ qs) ≡ join (p ∷ ps) ++ dashes qs
-join-append p ps qs = join-dashes p (ps ++ qs) ∙ ap (λ l. p ++ l) (dashes-append ps qs)
-    ∙ sym (append_assoc p (dashes ps) (dashes qs)) ∙ ap (λ l. l ++ dashes qs) (sym (join-dashes p ps))
+join-append p ps qs = grind (arith, join-dashes, dashes-append, append_assoc)
 
 pub ruleset join_laws = (join-nothing, join-dashes, dashes-append, join-append)
 
 -- a locale gives the text of its identifier, and each other piece after a hyphen
 pub text_of_parts : (M : Locale) → text M ≡ identifier_text M.id ++ dashes (extensions_spelling M.extensions)
 unfolding identifier_text
-text_of_parts M = join-append M.id.language _ (extensions_spelling M.extensions)
+text_of_parts M = rw join-append
 
 -- the pieces of an identifier in lower case
 
@@ -58,11 +83,7 @@ option_to_list-map f (Some x) = refl
 
 pub identifier_pieces-low : {s : Stage} (i : IdentifierOf s) →
     identifier_pieces (lower_identifier i) ≡ map lower (identifier_pieces i)
-identifier_pieces-low i = (λ k. lower i.language
-    ∷ (option_to_list-map lower i.script k ++ (option_to_list-map lower i.region k ++ map lower i.variants)))
-    ∙ ap (λ l. lower i.language ∷ l) (ap (λ l. map lower (option_to_list i.script) ++ l)
-    (sym (map-append lower (option_to_list i.region) i.variants))
-    ∙ sym (map-append lower (option_to_list i.script) (option_to_list i.region ++ i.variants)))
+identifier_pieces-low i = simp (option_to_list-map, map-append)
 
 pub id_pieces-low : {s : Stage} (o : Option (IdentifierOf s)) →
     optional_pieces (option_map lower_identifier o) ≡ map lower (optional_pieces o)
@@ -72,7 +93,7 @@ id_pieces-low (Some i) = identifier_pieces-low i
 -- each part, where it is empty and where it isn't
 
 there : (n : ℕ) (ps : List Text) → 0 < n → ps ≡ cond (nat_lt 0 n) ps []
-there n ps l = ap (λ (b : Bool). cond b ps []) (sym (lt-ltb 0 n l))
+there n ps l = rw lt-ltb
 
 pub unicode_spelling_is : (u : Unicode) →
     unicode_spelling u
@@ -129,10 +150,7 @@ private_spelling_none = refl
 pub before_above_is : (bs os : List Block) →
     before_above bs os ≡ before_t os ++ (bs ++ after_t os)
 before_above_is bs [] = sym (append-nil bs)
-before_above_is bs (o ∷ os) = elim (nat_le o.0 code_t)
-    as (λ b. cond b (o ∷ before_above bs os) (bs ++ (o ∷ os))
-    ≡ cond b (o ∷ before_t os) [] ++ (bs ++ cond b (after_t os) (o ∷ os)))
-    [ true ↦ ap (λ l. o ∷ l) (before_above_is bs os) | false ↦ refl ]
+before_above_is bs (o ∷ os) = grind (arith, before_above_is bs os)
 
 -- the pieces of extensions whose others are split in two, the parts of `t` and `u` between them
 pub spelling_around : (e : Extensions) (before after : List Block) →
@@ -142,17 +160,7 @@ pub spelling_around : (e : Extensions) (before after : List Block) →
     ++ (transform_spelling e.transform
     ++ (unicode_spelling e.unicode ++ (flat_map other_spelling after ++ private_spelling e.private)))
 unfolding extensions_spelling transform_spelling unicode_spelling other_spelling private_spelling
-spelling_around e before after split =
-    let parts = transform_block e.transform ∷ (code_u, unicode_pieces e.unicode) ∷ [] in
-    let t = printed_pieces (transform_block e.transform) in
-    let u = printed_pieces (code_u, unicode_pieces e.unicode) in
-    let x = printed_pieces (code_x, e.private) in
-    flat_map-append printed_pieces (before_above parts e.others) ((code_x, e.private) ∷ [])
-    ∙ (λ k. flat_map printed_pieces (split parts k) ++ append-nil x k)
-    ∙ ap (λ l. l ++ x) (flat_map-append printed_pieces before (parts ++ after))
-    ∙ append_assoc (flat_map printed_pieces before) (t ++ (u ++ flat_map printed_pieces after)) x
-    ∙ ap (λ l. flat_map printed_pieces before ++ l) (append_assoc t (u ++ flat_map printed_pieces after) x
-    ∙ ap (λ l. t ++ l) (append_assoc u (flat_map printed_pieces after) x))
+spelling_around e before after split = grind (arith, flat_map-append, append-nil, append_assoc)
 
 pub spelling_of_parts : (e : Extensions) →
     extensions_spelling e
@@ -160,5 +168,4 @@ pub spelling_of_parts : (e : Extensions) →
     ++ (transform_spelling e.transform
     ++ (unicode_spelling e.unicode
     ++ (flat_map other_spelling (after_t e.others) ++ private_spelling e.private)))
-spelling_of_parts e =
-    spelling_around e (before_t e.others) (after_t e.others) (λ bs. before_above_is bs e.others)
+spelling_of_parts e = search (spelling_around, before_above_is)

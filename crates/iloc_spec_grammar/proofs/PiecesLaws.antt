@@ -1,6 +1,5 @@
 -- A text has exactly one list of pieces.
-use Rattle.std.proofs.Common.{All, arith, ◌≡◌, ◌≢◌, ℕ, Bool, true, false, cond, ◌==◌, List, [], ◌∷◌, ◌++◌}
-use Rattle.std.proofs.Common.{refl, sym, ap, ◌∙◌}
+use Rattle.std.proofs.Common.{All, arith, ◌≡◌, ◌≢◌, ℕ, Bool, false, ◌==◌, List, [], ◌∷◌, ◌++◌, refl}
 use Rattle.std.specs.List.{slice_split, onto_first, list_any, AllByRecursion}
 use Rattle.std.proofs.lemmas.List.Splits.{join_with_byte-slice_split}
 use Rattle.std.proofs.lemmas.Bool.{or_parts, or_from, false_from_ne_true, cond_both}
@@ -26,7 +25,7 @@ pub pieces-join : (p : Text) (ps : List Text) → AllByRecursion IsHyphenFree (p
     pieces (join (p ∷ ps)) ≡ p ∷ ps
 unfolding pieces join
 pieces-join p [] h = pieces_whole p h.0
-pieces-join p (q ∷ ps) h = pieces_cut p _ h.0 ∙ ap (λ l. p ∷ l) (pieces-join q ps h.1)
+pieces-join p (q ∷ ps) h = search (pieces_cut, pieces-join q ps h.1)
 
 onto_nonempty : (c : ℕ) (ps : List Text) → onto_first c ps ≢ []
 onto_nonempty c [] e = cc
@@ -35,9 +34,7 @@ onto_nonempty c (p ∷ ps) e = cc
 pub pieces_nonempty : (t : Text) → pieces t ≢ []
 unfolding pieces
 pieces_nonempty [] e = cc
-pieces_nonempty (c ∷ t) e =
-    (elim (c == 45) as (λ b. cond b ([] ∷ slice_split hyphen t) (onto_first c (slice_split hyphen t)) ≢ [])
-    [ true ↦ λ e. cc | false ↦ onto_nonempty c _ ]) e
+pieces_nonempty (c ∷ t) e = grind (arith, onto_nonempty)
 
 -- what holds of each list with a piece holds of the pieces of a text
 pub at_pieces : (P : List Text → Type 0) → ((p : Text) (ps : List Text) → P (p ∷ ps)) →
@@ -53,8 +50,7 @@ onto_hyphen_free c (p ∷ ps) e h = (or_from _ _ e h.0, h.1)
 pub pieces_hyphen_free : (t : Text) → AllByRecursion IsHyphenFree (pieces t)
 unfolding pieces
 pieces_hyphen_free [] = (refl, tt)
-pieces_hyphen_free (c ∷ t) = cond_both (c == 45) _ _ (AllByRecursion IsHyphenFree)
-    (λ _. (refl, pieces_hyphen_free t)) (λ e. onto_hyphen_free c _ e (pieces_hyphen_free t))
+pieces_hyphen_free (c ∷ t) = grind (arith, cond_both, onto_hyphen_free, pieces_hyphen_free t)
 
 pub join-pieces : (t : Text) → join (pieces t) ≡ t
 unfolding pieces join
@@ -66,7 +62,7 @@ pieces_are t =
 
 pub pieces_unique : (t : Text) (ps : List Text) → ArePieces t ps → ps ≡ pieces t
 pieces_unique t [] h = absurd (h.nonempty refl)
-pieces_unique t (p ∷ ps) h = sym (pieces-join p ps h.hyphen_free) ∙ ap pieces h.joined
+pieces_unique t (p ∷ ps) h = grind (arith, pieces-join)
 
 no_hyphen : (c : ℕ) → c ≢ 45 → (c == 45) ≡ false
 no_hyphen c h = false_from_ne_true _ (λ e. h (grind (arith, nat_tests)))
@@ -78,8 +74,8 @@ hyphen_free (c ∷ p) h = or_from _ _ (no_hyphen c h.0) (hyphen_free p h.1)
 -- the text is cut at its first hyphen
 pub pieces-cut : (p rest : Text) → All (λ c. c ≢ 45) p → pieces (p ++ 45 ∷ rest) ≡ p ∷ pieces rest
 unfolding pieces
-pieces-cut p rest h = pieces_cut p rest (hyphen_free p (recursion_from_All (λ (c : ℕ). c ≢ 45) p h))
+pieces-cut p rest h = simp (pieces_cut, hyphen_free, recursion_from_All)
 
 pub pieces-uncut : (p : Text) → All (λ c. c ≢ 45) p → pieces p ≡ p ∷ []
 unfolding pieces
-pieces-uncut p h = pieces_whole p (hyphen_free p (recursion_from_All (λ (c : ℕ). c ≢ 45) p h))
+pieces-uncut p h = simp (pieces_whole, hyphen_free, recursion_from_All)

@@ -6,9 +6,23 @@ use Rattle.std.specs.Char.{is_ascii_alphanumeric}
 use Rattle.std.proofs.lemmas.Bool.{and_parts, or_parts}
 use Rattle.std.proofs.lemmas.Bool.Decides.{nat_tests}
 use Rattle.std.proofs.lemmas.List.{length-replicate, replicate-append-replicate}
-use Rattle.iloc_spec_grammar.specs.Syntax.{Text, Kind, Language, AreLengths, two_or_three, languages, is_word}
-use Rattle.iloc_spec_grammar.specs.Syntax.{IsWord, EndsAt, greatest, Bounds, raw, wide_raw, narrow_raw}
-use Rattle.iloc_spec_grammar.specs.Syntax.{before_zero}
+use Rattle.iloc_spec_grammar.specs.Syntax.{
+  Text,
+  Kind,
+  Language,
+  AreLengths,
+  two_or_three,
+  languages,
+  is_word,
+  IsWord,
+  EndsAt,
+  greatest,
+  Bounds,
+  raw,
+  wide_raw,
+  narrow_raw,
+  before_zero,
+}
 use Rattle.iloc_spec_grammar.proofs.WordsLaws.{word_letters_or_digits}
 use Rattle.iloc_spec_grammar.proofs.General.{none_passes}
 
@@ -36,8 +50,7 @@ narrow_in_wide n h = grind (arith, nat_tests)
 -- no table has a length that the library's lacks
 pub table_in_ours : {T : ℕ → Bool} → AreLengths T → (n : ℕ) → T n ≡ true → languages n ≡ true
 unfolding languages
-table_in_ours table n h = let a = table.least n h in
-    let b = table.most n h in let c = table.no_script n h in grind (arith, nat_tests)
+table_in_ours table n h = grind (arith, nat_tests)
 
 pub wide_ends : EndsAt 8 languages
 wide_ends = languages_table.most
@@ -53,10 +66,7 @@ at_most_greatest n (Language T) w b h = b (length w) (and_parts _ _ h).0
 at_most_greatest n _ w b h = grind (arith, nat_tests)
 
 pub length-raw : (n : ℕ) (k : Kind) (w : Text) → Bounds n k → IsWord k w → length (raw n k w) ≡ greatest n k
-length-raw n k w b h = let m = at_most_greatest n k w b h in
-    let z : length (replicate {A = ℕ} (greatest n k - length w) 0) ≡ greatest n k - length w =
-    length-replicate (greatest n k - length w) 0 in
-    let a = length-append w (replicate (greatest n k - length w) 0) in omega arith
+length-raw n k w b h = grind (arith, at_most_greatest, length-replicate, length-append)
 
 -- no byte of a word is zero
 
@@ -78,8 +88,7 @@ before_padding (c ∷ w) n h = let parts = or_parts (is_zero c) (list_any is_zer
     rw parts.0 (ap (λ l. c ∷ l) (before_padding w n parts.1))
 
 pub before_zero-raw : (n : ℕ) (k : Kind) (w : Text) → IsWord k w → before_zero (raw n k w) ≡ w
-before_zero-raw n k w h = before_padding w (greatest n k - length w)
-    (none_passes _ is_zero either_no_zero w (word_letters_or_digits k w h))
+before_zero-raw n k w h = search (before_padding, none_passes, either_no_zero, word_letters_or_digits)
 
 pub raw_injective : (n : ℕ) (k : Kind) (v w : Text) → IsWord k v → IsWord k w → raw n k v ≡ raw n k w →
     v ≡ w

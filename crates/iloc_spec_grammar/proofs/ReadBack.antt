@@ -1,42 +1,150 @@
 -- The printed text of a well-formed value means the value.
-use Rattle.std.proofs.Common.{◌≡◌, ◌≢◌, ℕ, ◌+◌, ◌<◌, ◌≤◌, Bool, true, false, cond, ◌||◌, ◌==◌, List, [], ◌∷◌}
-use Rattle.std.proofs.Common.{◌++◌, length, map, filter_map, flat_map, refl, sym, ap, ap₂, ◌∙◌, subst, arith}
-use Rattle.std.proofs.Common.{Option, Some, None, IfSome, option_map, option_to_list, true≢false, is_some}
-use Rattle.std.proofs.Common.{nat_le, nat_lt, append-nil}
+use Rattle.std.proofs.lemmas.Grind.{common_steps}
+use Rattle.std.proofs.Common.{
+  ◌≡◌,
+  ◌≢◌,
+  ℕ,
+  ◌+◌,
+  ◌<◌,
+  ◌≤◌,
+  Bool,
+  true,
+  false,
+  cond,
+  ◌||◌,
+  List,
+  [],
+  ◌∷◌,
+  ◌++◌,
+  length,
+  map,
+  filter_map,
+  flat_map,
+  refl,
+  sym,
+  ap,
+  ap₂,
+  ◌∙◌,
+  subst,
+  arith,
+  Option,
+  Some,
+  None,
+  IfSome,
+  option_map,
+  option_to_list,
+  true≢false,
+  is_some,
+  nat_le,
+  nat_lt,
+  append-nil,
+}
 use Rattle.std.specs.List.{AllByRecursion}
 use Rattle.std.specs.Char.{is_ascii_alphanumeric, to_ascii_lowercase}
 use Rattle.std.specs.Ordering.{nat_cmp, eq_by_cmp, is_lt}
-use Rattle.std.specs.Int.{is_in_range}
 use Rattle.std.specs.FinMap.{is_sorted, find}
 use Rattle.std.specs.FinMap.Entries.{below_all}
-use Rattle.std.proofs.lemmas.Bool.{and_parts, and_from, or_from, leb-true, leb-false, lt-ltb, ltb-true}
-use Rattle.std.proofs.lemmas.Bool.{cond_both}
+use Rattle.std.proofs.lemmas.Bool.{
+  and_parts,
+  and_from,
+  or_from,
+  leb-true,
+  leb-false,
+  lt-ltb,
+  ltb-true,
+  cond_both,
+}
 use Rattle.std.proofs.lemmas.Bool.Decides.{nat_tests}
 use Rattle.std.proofs.lemmas.List.Elements.{filter_map-append}
 use Rattle.std.proofs.lemmas.List.Concat.{flat_map-append}
 use Rattle.std.proofs.lemmas.List.{map-append}
-use Rattle.iloc_spec_grammar.specs.Syntax.{LanguageLengths, Block, code_x, code_u, code_t, Text, pieces, join}
-use Rattle.iloc_spec_grammar.specs.Syntax.{IsHyphenFree, Kind, Language, Script, Region}
-use Rattle.iloc_spec_grammar.specs.Syntax.{Variant, Subtag, UnicodeKey, TransformKey, Attribute}
-use Rattle.iloc_spec_grammar.specs.Syntax.{PrivateSubtag, is_word, IsWord, lower, SpelledIdentifier}
-use Rattle.iloc_spec_grammar.specs.Syntax.{Identifier, Unicode, Transform, Fields, identifier_pieces}
-use Rattle.iloc_spec_grammar.specs.Syntax.{optional_pieces, fields_pieces, HasWords, IsIdentifier, IsField}
-use Rattle.iloc_spec_grammar.specs.Syntax.{kept, is_other_singleton, lower_singleton, AllDifferent, IsPrivate}
-use Rattle.iloc_spec_grammar.specs.Tree.{Extension, unicode, transform, other, Written, extension_pieces}
-use Rattle.iloc_spec_grammar.specs.Tree.{block_pieces, extension_block, spelling, IsExtension, IsWritten}
-use Rattle.iloc_spec_grammar.specs.Tree.{unicode_part, transform_part, private_part, other_part, by_singleton}
-use Rattle.iloc_spec_grammar.specs.Tree.{meaning, TreeMeans, IsTreeWellFormed, transform_form, unicode_form}
-use Rattle.iloc_spec_grammar.specs.Tree.{others_form, private_form, before_t, after_t, printed, tree_text}
-use Rattle.iloc_spec_grammar.specs.Tree.{spelled_transform, spelled_unicode}
+use Rattle.iloc_spec_grammar.specs.Syntax.{
+  LanguageLengths,
+  Block,
+  code_x,
+  code_u,
+  code_t,
+  Text,
+  pieces,
+  join,
+  IsHyphenFree,
+  Kind,
+  Language,
+  Script,
+  Region,
+  Variant,
+  Subtag,
+  UnicodeKey,
+  TransformKey,
+  Attribute,
+  PrivateSubtag,
+  is_word,
+  IsWord,
+  SpelledIdentifier,
+  Unicode,
+  Transform,
+  Fields,
+  identifier_pieces,
+  optional_pieces,
+  fields_pieces,
+  HasWords,
+  IsIdentifier,
+  IsField,
+  kept,
+  is_other_singleton,
+  lower_singleton,
+  AllDifferent,
+  IsPrivate,
+}
+use Rattle.iloc_spec_grammar.specs.Tree.{
+  Extension,
+  unicode,
+  transform,
+  other,
+  Written,
+  extension_pieces,
+  block_pieces,
+  extension_block,
+  spelling,
+  IsExtension,
+  IsWritten,
+  unicode_part,
+  transform_part,
+  private_part,
+  other_part,
+  by_singleton,
+  meaning,
+  TreeMeans,
+  IsTreeWellFormed,
+  transform_form,
+  unicode_form,
+  others_form,
+  private_form,
+  before_t,
+  after_t,
+  printed,
+  tree_text,
+  spelled_transform,
+  spelled_unicode,
+}
 use Rattle.iloc_spec_grammar.specs.Meaning.{map_of, Locale, normal_unicode, normal_transform}
 use Rattle.iloc_spec_grammar.specs.Values.{IsNormal, IsValue, lower_identifier, spelled_fields}
 use Rattle.iloc_spec_grammar.proofs.WordsLaws.{word_letters_or_digits}
 use Rattle.iloc_spec_grammar.proofs.PiecesLaws.{pieces-join}
 use Rattle.iloc_spec_grammar.proofs.MapLaws.{map_of_sorted, sorted_different}
-use Rattle.iloc_spec_grammar.proofs.ValuesLaws.{all_weaker, all_both, map_fixed, filter_all, value_identifier}
-use Rattle.iloc_spec_grammar.proofs.ValuesLaws.{normal_value, value_unicode, normal_value_unicode}
-use Rattle.iloc_spec_grammar.proofs.ValuesLaws.{value_transform, normal_value_transform}
-use Rattle.iloc_spec_grammar.proofs.ValuesLaws.{length-spelled_fields}
+use Rattle.iloc_spec_grammar.proofs.ValuesLaws.{
+  all_weaker,
+  all_both,
+  map_fixed,
+  filter_all,
+  value_identifier,
+  normal_value,
+  value_unicode,
+  normal_value_unicode,
+  value_transform,
+  normal_value_transform,
+  length-spelled_fields,
+}
 use Rattle.iloc_spec_grammar.proofs.Singletons.{untied, no_t, no_u}
 use Rattle.iloc_spec_grammar.proofs.General.{cond-map, none_passes}
 
@@ -69,9 +177,7 @@ module _ (P : Text → Type 0) where
       ((p : Text) → IsWord Region p → P p) → ((p : Text) → IsWord Variant p → P p) →
       (i : SpelledIdentifier) → HasWords T i →
       AllByRecursion P (option_to_list i.script ++ (option_to_list i.region ++ i.variants))
-  after_language_each s r v i h = all_append P (option_to_list i.script) _
-      (option_each Script s i.script h.script) (all_append P (option_to_list i.region) _
-      (option_each Region r i.region h.region) (all_weaker (IsWord Variant) P v i.variants h.variants))
+  after_language_each s r v i h = search (all_append, option_each, all_weaker)
 
   pub optional_each : (T : LanguageLengths) →
       ((i : SpelledIdentifier) → HasWords T i → AllByRecursion P (identifier_pieces i)) →
@@ -128,54 +234,41 @@ module _ (P : Text → Type 0) (word : (k : Kind) (p : Text) → IsWord k p → 
       AllByRecursion (λ e. IsExtension T (lower_singleton e) e.1 × OfWords e.1) es →
       AllByRecursion P (flat_map block_pieces (map extension_block es))
   extensions_each T [] h = tt
-  extensions_each T (e ∷ es) h = (
-    singleton e.0 (extension_singleton T _ e.1 h.0.0),
-    all_append P (extension_pieces e.1) _ (extension_each T _ e.1 h.0.0 h.0.1) (extensions_each T es h.1),
-  )
+  extensions_each T (e ∷ es) h =
+      search (extension_singleton, all_append, extension_each, extensions_each T es h.1)
 
   private_each : (x : Option Block) →
       IfSome x (λ e. (lower_singleton e ≡ code_x) × IsPrivate e.1) →
       AllByRecursion P (flat_map block_pieces (option_to_list x))
   private_each None h = tt
-  private_each (Some e) h =
-      (singleton e.0 (rw h.0), all_append P e.1 [] (words_each PrivateSubtag e.1 h.1.words) tt)
+  private_each (Some e) h = grind (arith, all_append, words_each)
 
   pub written_each : {T : ℕ → Bool} (w : Written) → IsWritten T w →
       AllByRecursion (λ e. OfWords e.1) w.extensions → AllByRecursion P (spelling w)
   written_each {T = T} w h o =
       all_append P (identifier_pieces w.id) _ (identifier_each w.id h.id.words)
       (subst (AllByRecursion P)
-      (sym (flat_map-append block_pieces (map extension_block w.extensions) (option_to_list w.private)))
+      (simp flat_map-append)
       (all_append P (flat_map block_pieces (map extension_block w.extensions)) _
       (extensions_each T w.extensions (all_both _ _ w.extensions h.extensions o))
       (private_each w.private h.private)))
 
 -- words and singletons have no hyphen
 
-either_no_hyphen : (c : ℕ) → is_ascii_alphanumeric c ≡ true → (c == 45) ≡ false
-either_no_hyphen c h = grind (arith, nat_tests)
-
 pub word_hyphen_free : (k : Kind) (p : Text) → IsWord k p → IsHyphenFree p
-word_hyphen_free k p h = none_passes _ (λ b. b == 45) either_no_hyphen p (word_letters_or_digits k p h)
-
-hyphen_byte : (c : ℕ) → is_ascii_alphanumeric (to_ascii_lowercase c) ≡ true → (c == 45) ≡ false
-hyphen_byte c h = grind (arith, nat_tests)
+word_hyphen_free k p h = grind (arith, none_passes, word_letters_or_digits, nat_tests)
 
 singleton_hyphen_free : (c : ℕ) → is_ascii_alphanumeric (to_ascii_lowercase c) ≡ true → IsHyphenFree (c ∷ [])
-singleton_hyphen_free c h = or_from _ _ (hyphen_byte c h) refl
+singleton_hyphen_free c h = grind (arith, or_from, nat_tests)
 
 pub identifier_hyphen_free : {T : ℕ → Bool} (i : SpelledIdentifier) → HasWords T i →
     AllByRecursion IsHyphenFree (identifier_pieces i)
 identifier_hyphen_free i h = identifier_each IsHyphenFree word_hyphen_free singleton_hyphen_free i h
 
-pub written_hyphen_free : {T : ℕ → Bool} (w : Written) → IsWritten T w →
-    AllByRecursion (λ e. OfWords e.1) w.extensions → AllByRecursion IsHyphenFree (spelling w)
-written_hyphen_free w h o = written_each IsHyphenFree word_hyphen_free singleton_hyphen_free w h o
-
 -- a text spelled without stray hyphens has the pieces that were spelled
 pub pieces_spelled : {T : ℕ → Bool} (w : Written) → IsWritten T w →
     AllByRecursion (λ e. OfWords e.1) w.extensions → pieces (join (spelling w)) ≡ spelling w
-pieces_spelled w h o = pieces-join w.id.language _ (written_hyphen_free w h o)
+pieces_spelled w h o = search (pieces-join, written_each, word_hyphen_free, singleton_hyphen_free)
 
 -- lists of entries in order
 
@@ -201,10 +294,15 @@ sorted_append : {X : Type 0} (n : ℕ) (xs ys : List (ℕ × X)) → is_sorted n
 sorted_append n [] ys sx bx sy by = sy
 sorted_append {X = X} n (x ∷ xs) ys sx bx sy by =
     let parts = and_parts _ _ sx in
-    let above : AllByRecursion (λ (e : ℕ × X). x.0 < e.0) (xs ++ ys) =
-    all_append (λ (e : ℕ × X). x.0 < e.0) xs ys (below_lt x.0 xs parts.0)
-    (all_weaker (λ (e : ℕ × X). n ≤ e.0) (λ e. x.0 < e.0) (λ e h. let l = bx.0 in omega arith) ys by) in
-    and_from _ _ (lt_below x.0 (xs ++ ys) above) (sorted_append n xs ys parts.1 bx.1 sy by)
+    grind (
+      arith,
+      all_append,
+      below_lt,
+      all_weaker,
+      and_from,
+      lt_below,
+      sorted_append n xs ys parts.1 bx.1 sy by,
+    )
 
 sorted_if : {X : Type 0} (b : Bool) (x : ℕ × X) → is_sorted nat_cmp (cond b (x ∷ []) []) ≡ true
 sorted_if true x = refl
@@ -218,19 +316,16 @@ Others = List Block
 all_before : (P : Block → Type 0) (os : Others) → AllByRecursion P os →
     AllByRecursion P (before_t os)
 all_before P [] h = tt
-all_before P (o ∷ os) h =
-    cond_both (nat_le o.0 code_t) _ _ (AllByRecursion P) (λ _. (h.0, all_before P os h.1)) (λ _. tt)
+all_before P (o ∷ os) h = grind (arith, cond_both, all_before P os h.1)
 
 all_after : (P : Block → Type 0) (os : Others) → AllByRecursion P os →
     AllByRecursion P (after_t os)
 all_after P [] h = tt
-all_after P (o ∷ os) h =
-    cond_both (nat_le o.0 code_t) _ _ (AllByRecursion P) (λ _. all_after P os h.1) (λ _. h)
+all_after P (o ∷ os) h = grind (arith, cond_both, all_after P os h.1)
 
 before_le : (os : Others) → AllByRecursion (λ o. o.0 ≤ code_t) (before_t os)
 before_le [] = tt
-before_le (o ∷ os) = cond_both (nat_le o.0 code_t) _ _ (AllByRecursion (λ p. p.0 ≤ code_t))
-    (λ e. (leb-true _ _ e, before_le os)) (λ _. tt)
+before_le (o ∷ os) = grind (arith, cond_both, leb-true, before_le os)
 
 after_gt : (os : Others) → is_sorted nat_cmp os ≡ true → AllByRecursion (λ o. code_t < o.0) (after_t os)
 after_gt [] h = tt
@@ -244,9 +339,7 @@ sorted_before : (os : Others) → is_sorted nat_cmp os ≡ true → is_sorted na
 sorted_before [] h = refl
 sorted_before (o ∷ os) h =
     let parts = and_parts _ _ h in
-    cond_both (nat_le o.0 code_t) _ _ (λ l. is_sorted nat_cmp l ≡ true)
-    (λ _. and_from _ _ (lt_below o.0 (before_t os) (all_before (λ p. o.0 < p.0) os (below_lt o.0 os parts.0)))
-    (sorted_before os parts.1)) (λ _. refl)
+    grind (arith, cond_both, and_from, lt_below, all_before, below_lt, sorted_before os parts.1)
 
 sorted_after : (os : Others) → is_sorted nat_cmp os ≡ true → is_sorted nat_cmp (after_t os) ≡ true
 sorted_after [] h = refl
@@ -255,9 +348,7 @@ sorted_after (o ∷ os) h = cond_both (nat_le o.0 code_t) _ _ (λ l. is_sorted n
 
 before-after : (os : Others) → before_t os ++ after_t os ≡ os
 before-after [] = refl
-before-after (o ∷ os) =
-    elim (nat_le o.0 code_t) as (λ b. cond b (o ∷ before_t os) [] ++ cond b (after_t os) (o ∷ os) ≡ o ∷ os)
-    [ true ↦ ap (λ l. o ∷ l) (before-after os) | false ↦ refl ]
+before-after (o ∷ os) = grind (arith, before-after os)
 
 -- what is printed of them
 
@@ -269,32 +360,15 @@ abbrev plain_form : Others → List (ℕ × Extension)
 plain_form os = map (λ o. (o.0, other o.1)) os
 
 others_form_is : (os : Others) → AllByRecursion IsOtherEntry os → others_form os ≡ plain_form os
-others_form_is os h = ap plain_form (filter_all _ os
-    (all_weaker IsOtherEntry (λ o. nat_lt 0 (length o.1) ≡ true) (λ o x. lt-ltb 0 _ x.1) os h))
+others_form_is os h = grind (arith, filter_all, all_weaker, lt-ltb)
 
 kept_words : (ws : List Text) → AllByRecursion (IsNormal Subtag) ws → kept ws ≡ ws
-kept_words ws h = ap (map lower)
-    (filter_all (is_word Subtag) ws (all_weaker (IsNormal Subtag) (IsWord Subtag) (λ w n. n.0) ws h))
-    ∙ map_fixed lower ws (all_weaker (IsNormal Subtag) (λ w. lower w ≡ w) (λ w n. n.1) ws h)
-
-subtag_length : (w : Text) → IsWord Subtag w → is_in_range 2 8 (length w) ≡ true
-unfolding is_word
-subtag_length w h = (and_parts _ _ h).0
+kept_words ws h = grind (arith, filter_all, all_weaker, map_fixed)
 
 other_rule : (T : LanguageLengths) (o : Block) → IsOtherEntry o →
     IsExtension T (to_ascii_lowercase o.0) (other o.1) × AllByRecursion (IsWord Subtag) o.1
-other_rule T o h =
-    let words = all_weaker (IsNormal Subtag) (IsWord Subtag) (λ w n. n.0) o.1 h.2 in (
-      (
-        ap is_other_singleton h.0.1 ∙ h.0.0,
-        record {
-          lengths =
-              all_weaker (IsWord Subtag) (λ w. is_in_range 2 8 (length w) ≡ true) subtag_length o.1 words;
-          nonempty = subst (λ (l : List Text). 0 < length l) (sym (kept_words o.1 h.2)) h.1;
-        },
-      ),
-      words,
-    )
+unfolding is_word
+other_rule T o h = grind (arith, all_weaker, kept_words, and_parts)
 
 all_plain : (P : ℕ × Extension → Type 0) (Q : Block → Type 0) →
     ((o : Block) → Q o → P (o.0, other o.1)) → (os : Others) → AllByRecursion Q os →
@@ -312,24 +386,19 @@ sorted_plain (o ∷ os) h = let parts = and_parts _ _ h in
 
 parts_plain : (os : Others) → AllByRecursion IsOtherEntry os → filter_map other_part (plain_form os) ≡ os
 parts_plain [] h = refl
-parts_plain (o ∷ os) h = λ i. (o.0, kept_words o.1 h.0.2 i) ∷ parts_plain os h.1 i
+parts_plain (o ∷ os) h = search (kept_words, parts_plain os h.1)
 
 -- looking up a singleton
 
 find_skip : {X : Type 0} (q : ℕ) (xs ys : List (ℕ × X)) → AllByRecursion (λ e. e.0 ≢ q) xs →
     find nat_cmp q (xs ++ ys) ≡ find nat_cmp q ys
 find_skip q [] ys h = refl
-find_skip q (x ∷ xs) ys h =
-    ap (λ b. cond b (Some x.1) (find nat_cmp q (xs ++ ys))) (untied q x.0 h.0) ∙ find_skip q xs ys h.1
-
-find_none : {X : Type 0} (q : ℕ) (xs : List (ℕ × X)) → AllByRecursion (λ e. e.0 ≢ q) xs →
-    find nat_cmp q xs ≡ None
-find_none q xs h = ap (find nat_cmp q) (sym (append-nil xs)) ∙ find_skip q xs [] h
+find_skip q (x ∷ xs) ys h = search (untied, find_skip q xs ys h.1)
 
 find_if : {X : Type 0} (q : ℕ) (b : Bool) (x : X) (ys : List (ℕ × X)) → eq_by_cmp nat_cmp q q ≡ true →
     AllByRecursion (λ e. e.0 ≢ q) ys → find nat_cmp q (cond b ((q, x) ∷ []) [] ++ ys) ≡ cond b (Some x) None
-find_if q true x ys t h = ap (λ b. cond b (Some x) (find nat_cmp q ys)) t
-find_if q false x ys t h = find_none q ys h
+find_if q true x ys t h = cc
+find_if q false x ys t h = ap (find nat_cmp q) (sym (append-nil ys)) ∙ find_skip q ys [] h
 
 no_parts : (b : Bool) (c : ℕ) (e : Extension) → other_part (c, e) ≡ None →
     filter_map other_part (cond b ((c, e) ∷ []) []) ≡ []
@@ -342,52 +411,27 @@ unicode_back : (u : Unicode) → normal_unicode (spelled_unicode u) ≡ u → (b
     nat_lt 0 (length u.attributes + length u.keywords) ≡ b →
     unicode_part (cond b (Some (unicode (spelled_unicode u))) None) ≡ u
 unicode_back u h true e = h
-unicode_back u h false e = empty u.attributes u.keywords e
-  where
-    empty : (ws : List Text) (ks : Fields) → nat_lt 0 (length ws + length ks) ≡ false →
-        ◌≡◌ {A = Unicode} (record { attributes = []; keywords = [] })
-        (record { attributes = ws; keywords = ks })
-    empty [] [] e = refl
-    empty _ _ e = grind (arith, nat_tests)
+unicode_back u h false e = grind (arith, common_steps, nat_tests)
 
 transform_back : (m : Transform) → normal_transform (spelled_transform m) ≡ m → (b : Bool) →
     (is_some m.id || nat_lt 0 (length m.fields)) ≡ b →
     transform_part (cond b (Some (transform (spelled_transform m))) None) ≡ m
 transform_back m h true e = h
-transform_back m h false e = empty m.id m.fields e
-  where
-    empty : (i : Option Identifier) (fs : Fields) → (is_some i || nat_lt 0 (length fs)) ≡ false →
-        ◌≡◌ {A = Transform} (record { id = None; fields = [] }) (record { id = i; fields = fs })
-    empty None [] e = refl
-    empty _ _ e = grind (arith, nat_tests)
+transform_back m h false e = grind (arith, common_steps, nat_tests)
 
 transform_nonempty : (m : Transform) → (is_some m.id || nat_lt 0 (length m.fields)) ≡ true →
     option_map lower_identifier m.id ≡ None → 0 < length (spelled_fields m.fields)
-transform_nonempty m e n = from m.id m.fields e n (length-spelled_fields m.fields)
-  where
-    from : (i : Option Identifier) (fs : Fields) → (is_some i || nat_lt 0 (length fs)) ≡ true →
-        option_map lower_identifier i ≡ None → length (spelled_fields fs) ≡ length fs →
-        0 < length (spelled_fields fs)
-    from None [] e n l = absurd (true≢false (sym e))
-    from None (f ∷ fs) e n l = omega arith
-    from (Some i) fs e n l = cc
+transform_nonempty m e n = grind (arith, length-spelled_fields, true≢false)
 
 private_back : (ws : List Text) → AllByRecursion (IsNormal PrivateSubtag) ws →
     private_part (private_form ws) ≡ ws
 private_back [] h = refl
-private_back (w ∷ ws) h =
-    map_fixed lower (w ∷ ws) (all_weaker (IsNormal PrivateSubtag) (λ w. lower w ≡ w) (λ w n. n.1) (w ∷ ws) h)
+private_back (w ∷ ws) h = grind (arith, map_fixed, all_weaker)
 
 private_rule : (ws : List Text) → AllByRecursion (IsNormal PrivateSubtag) ws →
     IfSome (private_form ws) (λ e. (lower_singleton e ≡ code_x) × IsPrivate e.1)
 private_rule [] h = tt
-private_rule (w ∷ ws) h = (
-  refl,
-  record {
-    words = all_weaker (IsNormal PrivateSubtag) (IsWord PrivateSubtag) (λ w n. n.0) (w ∷ ws) h;
-    nonempty = omega arith;
-  },
-)
+private_rule (w ∷ ws) h = grind (arith, all_weaker)
 
 module _ {T : ℕ → Bool} (M : Locale) (h : IsValue T M) (g : IsTreeWellFormed M) where
   entries : AllByRecursion IsOtherEntry M.extensions.others
@@ -436,24 +480,14 @@ module _ {T : ℕ → Bool} (M : Locale) (h : IsValue T M) (g : IsTreeWellFormed
       (has_t ≡ true → P (code_t, transform (spelled_transform M.extensions.transform))) →
       (has_u ≡ true → P (code_u, unicode (spelled_unicode M.extensions.unicode))) →
       AllByRecursion P (plain_form after) → AllByRecursion P extensions
-  all_extensions P a b c d = all_append P (plain_form before) _ a (all_append P (cond has_t _ []) _
-      (all_if P has_t _ b) (all_append P (cond has_u _ []) _ (all_if P has_u _ c) d))
+  all_extensions P a b c d = search (all_append, all_if)
 
   rules : AllByRecursion (λ e. IsExtension T (lower_singleton e) e.1 × OfWords e.1) extensions
   rules = all_extensions (λ e. IsExtension T (lower_singleton e) e.1 × OfWords e.1)
-      (all_plain (λ e. IsExtension T (lower_singleton e) e.1 × OfWords e.1) IsOtherEntry (other_rule T) before
-      entries_before)
-      (λ e. (
-        (
-          refl,
-          value_transform M.extensions.transform h.extensions.transform
-              (transform_nonempty M.extensions.transform e),
-        ),
-        tt,
-      ))
-      (λ e. ((refl, value_unicode M.extensions.unicode h.extensions.unicode g.values (ltb-true 0 _ e)), tt))
-      (all_plain (λ e. IsExtension T (lower_singleton e) e.1 × OfWords e.1) IsOtherEntry (other_rule T) after
-      entries_after)
+      (search (all_plain, other_rule, entries_before))
+      (search (value_transform, transform_nonempty))
+      (search (value_unicode, ltb-true))
+      (search (all_plain, other_rule, entries_after))
 
   lower_singletons : by_singleton extensions ≡ extensions
   lower_singletons =
@@ -465,13 +499,12 @@ module _ {T : ℕ → Bool} (M : Locale) (h : IsValue T M) (g : IsTreeWellFormed
 
   below_t : AllByRecursion (λ e. e.0 < code_t) (plain_form before)
   below_t = all_plain (λ e. e.0 < code_t) (λ o. IsOtherEntry o × (o.0 ≤ code_t))
-      (λ o x. let n : o.0 ≢ code_t = λ e. no_t o.0 e x.0.0.0 in let l = x.1 in omega arith)
-      (before_t M.extensions.others) (all_both IsOtherEntry (λ o. o.0 ≤ code_t) (before_t M.extensions.others)
-      (all_before IsOtherEntry M.extensions.others entries) (before_le M.extensions.others))
+      (grind (arith, no_t))
+      (before_t M.extensions.others) (search (all_both, all_before, entries, before_le))
 
   above_u : AllByRecursion (λ e. 118 ≤ e.0) (plain_form after)
   above_u = all_plain (λ e. 118 ≤ e.0) (λ o. IsOtherEntry o × (code_t < o.0))
-      (λ o x. let n : o.0 ≢ code_u = λ e. no_u o.0 e x.0.0.0 in let l = x.1 in omega arith)
+      (grind (arith, no_u))
       (after_t M.extensions.others) (all_both IsOtherEntry (λ o. code_t < o.0) (after_t M.extensions.others)
       (all_after IsOtherEntry M.extensions.others entries) (after_gt M.extensions.others g.ascending))
 
@@ -479,49 +512,41 @@ module _ {T : ℕ → Bool} (M : Locale) (h : IsValue T M) (g : IsTreeWellFormed
   in_order =
       let u : is_sorted nat_cmp (u_part ++ plain_form after) ≡ true = sorted_append 118 u_part
       (plain_form after) (sorted_if has_u _) (all_if (λ e. e.0 < 118) has_u _ (λ _. omega arith))
-      (sorted_plain (after_t M.extensions.others) (sorted_after M.extensions.others g.ascending)) above_u in
+      (search (sorted_plain, sorted_after)) above_u in
       let t : is_sorted nat_cmp (t_part ++ (u_part ++ plain_form after)) ≡ true =
       sorted_append code_u t_part _ (sorted_if has_t _)
       (all_if (λ e. e.0 < code_u) has_t _ (λ _. omega arith)) u
-      (all_append (λ e. code_u ≤ e.0) u_part _ (all_if (λ e. code_u ≤ e.0) has_u _ (λ _. omega arith))
-      (all_weaker (λ e. 118 ≤ e.0) (λ e. code_u ≤ e.0) (λ e l. omega arith) _ above_u)) in
+      (grind (arith, all_append, all_if, all_weaker, above_u)) in
       sorted_append code_t (plain_form before) _
-      (sorted_plain (before_t M.extensions.others) (sorted_before M.extensions.others g.ascending)) below_t t
-      (all_append (λ e. code_t ≤ e.0) t_part _ (all_if (λ e. code_t ≤ e.0) has_t _ (λ _. omega arith))
-      (all_append (λ e. code_t ≤ e.0) u_part _ (all_if (λ e. code_t ≤ e.0) has_u _ (λ _. omega arith))
-      (all_weaker (λ e. 118 ≤ e.0) (λ e. code_t ≤ e.0) (λ e l. omega arith) _ above_u)))
+      (search (sorted_plain, sorted_before)) below_t t
+      (grind (arith, all_append, all_if, all_weaker, above_u))
 
   find_t : find nat_cmp code_t extensions
       ≡ cond has_t (Some (transform (spelled_transform M.extensions.transform))) None
   find_t = find_skip code_t (plain_form before) _
-      (all_weaker (λ e. e.0 < code_t) (λ e. e.0 ≢ code_t) (λ e l. omega arith) _ below_t)
+      (grind (arith, all_weaker, below_t))
       ∙ find_if code_t has_t _ _ refl
-      (all_append (λ e. e.0 ≢ code_t) u_part _ (all_if (λ e. e.0 ≢ code_t) has_u _ (λ _. omega arith))
-      (all_weaker (λ e. 118 ≤ e.0) (λ e. e.0 ≢ code_t) (λ e l. omega arith) _ above_u))
+      (grind (arith, all_append, all_if, all_weaker, above_u))
 
   find_u : find nat_cmp code_u extensions
       ≡ cond has_u (Some (unicode (spelled_unicode M.extensions.unicode))) None
   find_u = find_skip code_u (plain_form before) _
-      (all_weaker (λ e. e.0 < code_t) (λ e. e.0 ≢ code_u) (λ e l. omega arith) _ below_t)
+      (grind (arith, all_weaker, below_t))
       ∙ find_skip code_u t_part _ (all_if (λ e. e.0 ≢ code_u) has_t _ (λ _. omega arith))
       ∙ find_if code_u has_u _ _ refl
-      (all_weaker (λ e. 118 ≤ e.0) (λ e. e.0 ≢ code_u) (λ e l. omega arith) _ above_u)
+      (grind (arith, all_weaker, above_u))
 
   others_back : filter_map other_part extensions ≡ M.extensions.others
   others_back = filter_map-append other_part (plain_form before) _
-      ∙ ap₂ ◌++◌ (parts_plain before entries_before) (filter_map-append other_part t_part _
-      ∙ ap₂ ◌++◌ (no_parts has_t _ _ refl) (filter_map-append other_part u_part _
-      ∙ ap₂ ◌++◌ (no_parts has_u _ _ refl) (parts_plain after entries_after)))
+      ∙ ap₂ ◌++◌ (parts_plain before entries_before)
+      (simp (filter_map-append, no_parts, parts_plain, entries_after))
       ∙ before-after M.extensions.others
 
   grammatical : IsWritten T (printed M)
   grammatical = record {
     id = value_identifier M.id h.id;
-    extensions = subst (AllByRecursion (λ e. IsExtension T (lower_singleton e) e.1)) (sym extensions_are)
-        (all_weaker (λ e. IsExtension T (lower_singleton e) e.1 × OfWords e.1)
-        (λ e. IsExtension T (lower_singleton e) e.1) (λ e x. x.0) extensions rules);
-    different = subst (λ es. AllDifferent nat_cmp (map (λ (e : ℕ × Extension). lower_singleton e) es))
-        (sym extensions_are) (subst (AllDifferent nat_cmp) (keys_lower extensions lower_singletons)
+    extensions = grind (arith, extensions_are, all_weaker, rules);
+    different = rw extensions_are (subst (AllDifferent nat_cmp) (keys_lower extensions lower_singletons)
         (sorted_different nat_cmp extensions in_order));
     private = private_rule M.extensions.private h.extensions.private;
   }
@@ -536,9 +561,7 @@ module _ {T : ℕ → Bool} (M : Locale) (h : IsValue T M) (g : IsTreeWellFormed
       keys_lower es e = ap (map (λ e. e.0)) (sym e) ∙ keys_twice es
 
   of_words : AllByRecursion (λ e. OfWords e.1) (printed M).extensions
-  of_words = subst (AllByRecursion (λ e. OfWords e.1)) (sym extensions_are)
-      (all_weaker (λ e. IsExtension T (lower_singleton e) e.1 × OfWords e.1) (λ e. OfWords e.1) (λ e x. x.1)
-      extensions rules)
+  of_words = rw extensions_are (grind (arith, all_weaker, rules))
 
   spelled : pieces (tree_text M) ≡ spelling (printed M)
   spelled = pieces_spelled (printed M) grammatical of_words
@@ -547,7 +570,7 @@ module _ {T : ℕ → Bool} (M : Locale) (h : IsValue T M) (g : IsTreeWellFormed
   pub printed_each : (P : Text → Type 0) → ((k : Kind) (p : Text) → IsWord k p → P p) →
       ((c : ℕ) → is_ascii_alphanumeric (to_ascii_lowercase c) ≡ true → P (c ∷ [])) →
       AllByRecursion P (spelling (printed M))
-  printed_each P word singleton = written_each P word singleton (printed M) grammatical of_words
+  printed_each P word singleton = search (written_each, grammatical, of_words)
 
   entries_are : by_singleton (printed M).extensions ≡ extensions
   entries_are = ap by_singleton extensions_are ∙ lower_singletons
@@ -591,8 +614,7 @@ module _ {T : ℕ → Bool} (M : Locale) (h : IsValue T M) (g : IsTreeWellFormed
       find nat_cmp q (printed M).extensions ≡ option_map other (find nat_cmp q M.extensions.others)
   printed_other q t u = ap (find nat_cmp q) extensions_are
       ∙ past (plain_form before) _ (plain_form after)
-      (find_skip q t_part (u_part ++ plain_form after) (all_if (λ e. e.0 ≢ q) has_t _ (λ _ e. t (sym e)))
-      ∙ find_skip q u_part (plain_form after) (all_if (λ e. e.0 ≢ q) has_u _ (λ _ e. u (sym e))))
+      (grind (arith, find_skip, all_if))
       ∙ ap (find nat_cmp q) (sym (map-append (λ o. (o.0, other o.1)) before after))
       ∙ plain_found (before ++ after)
       ∙ ap (λ os. option_map other (find nat_cmp q os)) (before-after M.extensions.others)

@@ -1,10 +1,15 @@
 -- Reading a word.
-use Rattle.std.proofs.Common.{◌≡◌, ◌↔◌, false, length, refl, sym, ap, ◌∙◌, Some, Ok, Err, Bool, true}
-use Rattle.std.proofs.Common.{Result, cond}
+use Rattle.std.proofs.Common.{arith, ◌≡◌, ◌↔◌, false, length, refl, ap, ◌∙◌, Some, Ok, Err}
 use Rattle.iloc_spec_grammar.specs.Syntax.{Text, Kind, is_word, IsWord, normal, lower, word, read}
 use Rattle.iloc_spec_grammar.specs.Values.{IsNormal}
-use Rattle.iloc_spec_grammar.proofs.WordsLaws.{normal-normal, is_word-normal, is_word-same, length-normal}
-use Rattle.iloc_spec_grammar.proofs.WordsLaws.{normal-lower, same_normal}
+use Rattle.iloc_spec_grammar.proofs.WordsLaws.{
+  normal-normal,
+  is_word-normal,
+  is_word-same,
+  length-normal,
+  normal-lower,
+  same_normal,
+}
 use Rattle.std.proofs.lemmas.Option.{cond_some}
 
 pub accepted_from_word : (k : Kind) (p w : Text) → word k p ≡ Some w → IsWord k p × (normal k p ≡ w)
@@ -21,47 +26,25 @@ pub word-normal : (k : Kind) (w : Text) → IsNormal k w → word k w ≡ Some w
 word-normal k w h = word_of_word k w h.0 ∙ ap Some h.1
 
 pub normal_again : (k : Kind) (p w : Text) → word k p ≡ Some w → word k w ≡ Some w
-normal_again k p w e =
-    let h = accepted_from_word k p w e in
-    rw (← h.1) (word-normal k (normal k p) (IsNormal-normal k p h.0))
+normal_again k p w e = grind (arith, accepted_from_word, word-normal, IsNormal-normal)
 
 pub length_kept : (k : Kind) (p w : Text) → word k p ≡ Some w → length w ≡ length p
-length_kept k p w e =
-    let h = accepted_from_word k p w e in
-    ap length (sym h.1) ∙ length-normal k p
+length_kept k p w e = grind (arith, accepted_from_word, length-normal)
 
 -- two texts have one normal form exactly where they are equal without case
 pub one_normal : (k : Kind) (a b v w : Text) → word k a ≡ Some v → word k b ≡ Some w →
     (v ≡ w) ↔ (lower a ≡ lower b)
-one_normal k a b v w ea eb =
-    let ha = accepted_from_word k a v ea in
-    let hb = accepted_from_word k b w eb in
-    rw (← ha.1, ← hb.1) (same_normal k a b)
+one_normal k a b v w ea eb = grind (arith, accepted_from_word, same_normal)
 
 -- a normal word is the normal text of exactly the texts that equal it without case
 pub normal_of_same : (k : Kind) (w p : Text) → IsNormal k w → (lower w ≡ lower p) ↔ (word k p ≡ Some w)
-normal_of_same k w p h = (
-  (λ e. word_of_word k p (is_word-same k p w (sym e) ∙ h.0)
-      ∙ ap Some (sym (normal-lower k p) ∙ ap (normal k) (sym e) ∙ normal-lower k w ∙ h.1)),
-  (λ e. (one_normal k w p w w (word-normal k w h) e).0 refl),
-)
+normal_of_same k w p h = grind (arith, word_of_word, is_word-same, normal-lower, one_normal, word-normal)
 
 -- what reading a word tells
 pub accepted_from_read : {E : Type 0} (k : Kind) (e : E) (p w : Text) → Ok w ≡ read k e p →
     IsWord k p × (w ≡ normal k p)
-accepted_from_read {E = E} k e p w h = by (is_word k p) refl h
-  where
-    by : (b : Bool) → is_word k p ≡ b →
-        ◌≡◌ {A = Result Text E} (Ok w) (cond b (Ok (normal k p)) (Err e)) → IsWord k p × (w ≡ normal k p)
-    by true i h = (i, cc)
-    by false i h = cc
+accepted_from_read {E = E} k e p w h = grind arith
 
 pub refused_from_read : {E : Type 0} (k : Kind) (e f : E) (p : Text) → Err f ≡ read k e p →
     (is_word k p ≡ false) × (f ≡ e)
-refused_from_read {E = E} k e f p h = by (is_word k p) refl h
-  where
-    by : (b : Bool) → is_word k p ≡ b →
-        ◌≡◌ {A = Result Text E} (Err f) (cond b (Ok (normal k p)) (Err e)) →
-        (is_word k p ≡ false) × (f ≡ e)
-    by true i h = cc
-    by false i h = (i, cc)
+refused_from_read {E = E} k e f p h = grind arith

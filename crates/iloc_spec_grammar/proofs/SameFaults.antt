@@ -1,18 +1,50 @@
 -- The fault of a text is the same by its blocks as by its tree.
-use Rattle.std.proofs.Common.{◌≡◌, ◌⊎◌, inl, inr, ℕ, Bool, true, false, ◌||◌, List, [], ◌∷◌, ◌++◌, refl, sym}
-use Rattle.std.proofs.Common.{ap, ◌∙◌, subst, true≢false, Result, Ok, Err, MatchResult, ◌↔◌, map}
+use Rattle.std.proofs.Common.{arith, ◌≡◌, ◌⊎◌, inl, inr, ℕ, Bool, true, false, ◌||◌, List, [], ◌∷◌, ◌++◌, refl, sym}
+use Rattle.std.proofs.Common.{ap, ◌∙◌, true≢false, Result, Ok, Err, MatchResult, ◌↔◌, map}
 use Rattle.std.specs.List.{list_any}
 use Rattle.std.specs.Char.{is_ascii_alphanumeric}
 use Rattle.std.specs.Ordering.{nat_cmp, eq_by_cmp}
 use Rattle.std.proofs.Math.Bool.{or-false}
 use Rattle.std.proofs.lemmas.Bool.{or_cases, cases_Bool, false_from_ne_true}
-use Rattle.iloc_spec_grammar.specs.Syntax.{LanguageLengths, Block, code_t, Text, pieces, AreLengths, Language}
-use Rattle.iloc_spec_grammar.specs.Syntax.{is_word, lower_singleton, head}
-use Rattle.iloc_spec_grammar.specs.Syntax.{first_piece}
-use Rattle.iloc_spec_grammar.specs.Tree.{HasSingleton, IsNew, TreeBlockFault, no_singleton, FirstBadBlock}
-use Rattle.iloc_spec_grammar.specs.Tree.{here, later, HasTreeFault, no_language, no_identifier, bad_block}
-use Rattle.iloc_spec_grammar.specs.Meaning.{Locale, Means, Fault, IsSecond, BlockFault, HasFault, in_head}
-use Rattle.iloc_spec_grammar.specs.Meaning.{in_block, HasBlockFault, not_a_language, not_an_identifier}
+use Rattle.iloc_spec_grammar.specs.Syntax.{
+  LanguageLengths,
+  Block,
+  code_t,
+  Text,
+  pieces,
+  AreLengths,
+  Language,
+  is_word,
+  lower_singleton,
+  head,
+  first_piece,
+}
+use Rattle.iloc_spec_grammar.specs.Tree.{
+  HasSingleton,
+  IsNew,
+  TreeBlockFault,
+  no_singleton,
+  FirstBadBlock,
+  here,
+  later,
+  HasTreeFault,
+  no_language,
+  no_identifier,
+  bad_block,
+}
+use Rattle.iloc_spec_grammar.specs.Meaning.{
+  Locale,
+  Means,
+  Fault,
+  IsSecond,
+  BlockFault,
+  HasFault,
+  in_head,
+  in_block,
+  HasBlockFault,
+  not_a_language,
+  not_an_identifier,
+}
 use Rattle.iloc_spec_grammar.specs.Computing.{locale_result}
 use Rattle.iloc_spec_grammar.proofs.FaultLaws as trees
 use Rattle.iloc_spec_grammar.proofs.FaultLaws.{AreGood, letter}
@@ -36,13 +68,12 @@ any_seen : (c : ℕ) (seen : List ℕ) (bs : List Block) →
     ≡ (list_any (eq_by_cmp nat_cmp c) (map (λ d. lower_singleton d) bs)
     || list_any (eq_by_cmp nat_cmp c) seen)
 any_seen c seen [] = refl
-any_seen c seen (b ∷ bs) =
-    any_seen c (lower_singleton b ∷ seen) bs ∙ shuffle _ (eq_by_cmp nat_cmp c (lower_singleton b)) _
+any_seen c seen (b ∷ bs) = simp (shuffle, any_seen c (lower_singleton b ∷ seen) bs)
 
 seen_is : (b : Block) (good : List Block) →
     list_any (eq_by_cmp nat_cmp (lower_singleton b)) (seen_after [] good)
     ≡ list_any (eq_by_cmp nat_cmp (lower_singleton b)) (map (λ c. lower_singleton c) good)
-seen_is b good = any_seen (lower_singleton b) [] good ∙ or-false _
+seen_is b good = rw (any_seen, or-false)
 
 is_new : (b : Block) (good : List Block) → ¬ (IsSecond good b) →
     IsNew (seen_after [] good) b
@@ -54,11 +85,10 @@ no_second b good e s = true≢false (sym s ∙ sym (seen_is b good) ∙ e)
 
 second_letter : (T : LanguageLengths) (seen : List ℕ) (b : Block) (good : List Block) →
     AreGood T seen good → IsSecond good b → HasSingleton b
-second_letter T seen b [] g s = absurd (true≢false (sym s))
+second_letter T seen b [] g s = cc
 second_letter T seen b (c ∷ cs) g s =
     elim (or_cases (eq_by_cmp nat_cmp (lower_singleton b) (lower_singleton c)) _ s) [
-      | inl e ↦ letter b.0 (subst (λ (n : ℕ). is_ascii_alphanumeric n ≡ true)
-          (tied (lower_singleton b) (lower_singleton c) e) (lower_letter c.0 g.0.0))
+      | inl e ↦ grind (arith, letter, tied, lower_letter)
       | inr e ↦ second_letter T (lower_singleton c ∷ seen) b cs g.1 e
     ]
 
@@ -122,22 +152,9 @@ bad_split T (later {b = b} a e g x) = let r = bad_split T x in record {
   bad = r.bad;
 }
 
-pub first_bad : {T : ℕ → Bool} {bs : List Block} {f : Fault} → HasBlockFault T bs f →
-    FirstBadBlock T [] bs f
-first_bad {T = T} {f = f} (good, b, rest, e, a, x) = let g = good_blocks a.1 in
-    subst (λ l. FirstBadBlock T [] l f) (sym e)
-    (after_good T [] good b rest g (tree_block_fault T good b g x))
-
 pub fault_of_first : {T : ℕ → Bool} {bs : List Block} {f : Fault} → FirstBadBlock T [] bs f →
     HasBlockFault T bs f
-fault_of_first {T = T} x = let r = bad_split T x in (
-  r.before,
-  r.block,
-  r.rest,
-  r.parts,
-  blocks_spelled r.good,
-  block_fault_by_tree T r.before r.block r.good r.bad,
-)
+fault_of_first {T = T} x = grind (arith, bad_split, blocks_spelled, block_fault_by_tree)
 
 -- whole texts
 
@@ -147,12 +164,12 @@ first_of_head (p ∷ ps) = refl
 
 language_of_head : (T : LanguageLengths) (t : Text) →
     is_word (Language T) (first_piece (head (pieces t))) ≡ is_word (Language T) (first_piece (pieces t))
-language_of_head T t = ap (is_word (Language T)) (first_of_head (pieces t))
+language_of_head T t = rw first_of_head
 
 pub tree_fault : {T : ℕ → Bool} (t : Text) {f : Fault} → HasFault T t f → HasTreeFault T t f
 tree_fault {T = T} t (in_head (not_a_language e)) = no_language (sym (language_of_head T t) ∙ e)
 tree_fault {T = T} t (in_head (not_an_identifier l n)) = no_identifier (sym (language_of_head T t) ∙ l) n
-tree_fault t (in_block s x) = bad_block s (first_bad x)
+tree_fault t (in_block s x) = bad_block s (grind (arith, good_blocks, after_good, tree_block_fault))
 
 pub fault_by_tree : {T : ℕ → Bool} (t : Text) {f : Fault} → HasTreeFault T t f → HasFault T t f
 fault_by_tree {T = T} t (no_language e) = in_head (not_a_language (language_of_head T t ∙ e))

@@ -1,36 +1,125 @@
 -- The meaning of a text is the same by its blocks as by its tree.
-use Rattle.std.proofs.Common.{◌≡◌, inl, inr, ℕ, ◌+◌, ◌<◌, Bool, true, false, cond, ◌==◌, List, [], ◌∷◌, ◌++◌}
-use Rattle.std.proofs.Common.{length, map, refl, sym, ap, ◌∙◌, subst, arith, Option, Some, None, IfSome}
-use Rattle.std.proofs.Common.{append-nil}
+use Rattle.std.proofs.Common.{
+  ◌≡◌,
+  inl,
+  inr,
+  ℕ,
+  ◌+◌,
+  ◌<◌,
+  Bool,
+  true,
+  false,
+  ◌==◌,
+  List,
+  [],
+  ◌∷◌,
+  ◌++◌,
+  length,
+  map,
+  refl,
+  sym,
+  ap,
+  ◌∙◌,
+  subst,
+  arith,
+  Option,
+  Some,
+  None,
+  IfSome,
+  append-nil,
+}
 use Rattle.std.specs.List.{AllByRecursion, list_any}
 use Rattle.std.specs.Char.{is_ascii_alphanumeric}
 use Rattle.std.specs.Ordering.{nat_cmp, eq_by_cmp}
 use Rattle.std.specs.FinMap.{find}
 use Rattle.std.proofs.lemmas.Bool.{or_parts, cond_both, false_from_ne_true, both_ways}
 use Rattle.std.proofs.lemmas.Bool.Decides.{nat_tests}
-use Rattle.iloc_spec_grammar.specs.Syntax.{LanguageLengths, Block, code_x, code_u, code_t, Text, pieces}
-use Rattle.iloc_spec_grammar.specs.Syntax.{AreLengths, PrivateSubtag, IsWord, lower, Spelled}
-use Rattle.iloc_spec_grammar.specs.Syntax.{SpelledIdentifier, SpelledUnicode, SpelledTransform, Fields}
-use Rattle.iloc_spec_grammar.specs.Syntax.{fields_pieces, unicode_pieces, transform_pieces, IsUnicode}
-use Rattle.iloc_spec_grammar.specs.Syntax.{IsTransform, IsOther, kept, is_other_singleton, lower_singleton}
-use Rattle.iloc_spec_grammar.specs.Syntax.{AllDifferent, head, tail_blocks}
-use Rattle.iloc_spec_grammar.specs.Tree.{Extension, unicode, transform, other, extension_pieces, IsExtension}
-use Rattle.iloc_spec_grammar.specs.Tree.{TreeMeans, meaning, by_singleton, IsBlock, HasSingleton}
-use Rattle.iloc_spec_grammar.specs.Meaning.{Locale, SpelledExtensions, Extensions, BlocksMean, Means}
-use Rattle.iloc_spec_grammar.specs.Meaning.{SpellsExtensions, AreBlocks, SpellsIdentifier, after, map_of}
-use Rattle.iloc_spec_grammar.specs.Meaning.{no_unicode, no_transform, normal_unicode, normal_transform}
-use Rattle.iloc_spec_grammar.specs.Meaning.{normal_extensions}
-use Rattle.iloc_spec_grammar.specs.ByBlocks.{UnicodeMeans, TransformMeans, PrivateMeans}
-use Rattle.iloc_spec_grammar.specs.Meaning.{other_blocks}
-use Rattle.iloc_spec_grammar.specs.ByBlocks.{grammar_rules, PartIs, BlocksGive, MeansByBlocks}
+use Rattle.iloc_spec_grammar.specs.Syntax.{
+  LanguageLengths,
+  Block,
+  code_x,
+  code_u,
+  code_t,
+  Text,
+  pieces,
+  AreLengths,
+  PrivateSubtag,
+  IsWord,
+  lower,
+  Spelled,
+  SpelledIdentifier,
+  SpelledUnicode,
+  SpelledTransform,
+  Fields,
+  fields_pieces,
+  unicode_pieces,
+  transform_pieces,
+  IsUnicode,
+  IsTransform,
+  IsOther,
+  is_other_singleton,
+  lower_singleton,
+  AllDifferent,
+  head,
+  tail_blocks,
+}
+use Rattle.iloc_spec_grammar.specs.Tree.{
+  Extension,
+  unicode,
+  transform,
+  other,
+  extension_pieces,
+  IsExtension,
+  TreeMeans,
+  meaning,
+  by_singleton,
+  IsBlock,
+  HasSingleton,
+}
+use Rattle.iloc_spec_grammar.specs.Meaning.{
+  Locale,
+  SpelledExtensions,
+  Extensions,
+  BlocksMean,
+  Means,
+  SpellsExtensions,
+  AreBlocks,
+  SpellsIdentifier,
+  after,
+  no_unicode,
+  no_transform,
+  normal_unicode,
+  normal_transform,
+  normal_extensions,
+  other_blocks,
+}
+use Rattle.iloc_spec_grammar.specs.ByBlocks.{
+  UnicodeMeans,
+  TransformMeans,
+  PrivateMeans,
+  grammar_rules,
+  PartIs,
+  BlocksGive,
+  MeansByBlocks,
+}
 use Rattle.iloc_spec_grammar.specs.Reading.{unicode_of, transform_of, written_of}
-use Rattle.iloc_spec_grammar.proofs.Readings.{unicode_of-pieces, pieces-unicode_of, transform_of-pieces}
-use Rattle.iloc_spec_grammar.proofs.Readings.{pieces-transform_of}
+use Rattle.iloc_spec_grammar.proofs.Readings.{
+  unicode_of-pieces,
+  pieces-unicode_of,
+  transform_of-pieces,
+  pieces-transform_of,
+}
 use Rattle.iloc_spec_grammar.proofs.Readings as trees
 use Rattle.iloc_spec_grammar.proofs.FaultLaws.{AreGood, NotSeen, unsee_one}
-use Rattle.iloc_spec_grammar.proofs.BlockLaws.{RuleAt, KeepsWords, blocks_good, one_extensions}
-use Rattle.iloc_spec_grammar.proofs.BlockLaws.{tree_by_blocks, blocks_tree, read_by_blocks}
-use Rattle.iloc_spec_grammar.proofs.Singletons.{tied, find_holds, no_u, no_t, no_x}
+use Rattle.iloc_spec_grammar.proofs.BlockLaws.{
+  RuleAt,
+  blocks_good,
+  one_extensions,
+  tree_by_blocks,
+  blocks_tree,
+  read_by_blocks,
+}
+use Rattle.iloc_spec_grammar.proofs.Singletons.{tied, find_holds}
 use Rattle.iloc_spec_grammar.proofs.ValuesLaws.{all_weaker}
 
 -- the pieces after a singleton are those of the block that is found
@@ -52,14 +141,17 @@ after_find : (q : ℕ) (bs : List Block) →
     AllDifferent nat_cmp (map (λ b. lower_singleton b) bs) →
     after q bs ≡ or_empty (find nat_cmp q (by_singleton bs))
 after_find q [] d = refl
-after_find q (b ∷ bs) d = ap (λ t. cond t b.1 [] ++ after q bs) (same_test q (lower_singleton b))
-    ∙ cond_both (eq_by_cmp nat_cmp q (lower_singleton b)) _ _
-    (λ o. cond (eq_by_cmp nat_cmp q (lower_singleton b)) b.1 [] ++ after q bs ≡ or_empty o)
-    (λ e. rw e (ap (λ l. b.1 ++ l) (none_after q bs
-    (subst (λ (c : ℕ). list_any (eq_by_cmp nat_cmp c) (map (λ b. lower_singleton b) bs) ≡ false)
-    (tied q (lower_singleton b) e) (false_from_ne_true _ d.0)))
-    ∙ append-nil b.1))
-    (λ e. rw e (after_find q bs d.1))
+after_find q (b ∷ bs) d =
+    grind (
+      arith,
+      same_test,
+      cond_both,
+      none_after,
+      tied,
+      false_from_ne_true,
+      append-nil,
+      after_find q bs d.1,
+    )
 
 -- parts that are spelled by some piece, and by none
 
@@ -84,8 +176,7 @@ some_unicode u h = from u.attributes u.keywords h
     from [] [] h = h
 
 transform_some : (m : SpelledTransform) → 0 < length (transform_pieces m) → m.id ≡ None → 0 < length m.fields
-transform_some m h e = from m.fields (subst (λ (o : Option SpelledIdentifier).
-    0 < length (transform_pieces {s = Spelled} (record { id = o; fields = m.fields }))) e h)
+transform_some m h e = from m.fields (rw e at h)
   where
     from : (fs : Fields) → 0 < length (fields_pieces fs) → 0 < length fs
     from [] h = h
@@ -125,8 +216,7 @@ transform_none m e = from m.id m.fields e
 pub spelled_give : (T : LanguageLengths) (bs : List Block) (e : SpelledExtensions) →
     SpellsExtensions T bs e → BlocksGive (grammar_rules T) bs (normal_extensions e)
 spelled_give T bs e s = record {
-  letters = all_weaker (λ b. (is_ascii_alphanumeric b.0 ≡ true) × (0 < length b.1)) HasSingleton (λ b k. k.0)
-      bs s.each_block;
+  letters = grind (arith, all_weaker);
   different = s.different;
   unicode = at_u (find nat_cmp code_u (by_singleton bs)) (some_at code_u)
       (sym (after_find code_u bs s.different) ∙ s.unicode.1);
@@ -134,56 +224,33 @@ spelled_give T bs e s = record {
       (sym (after_find code_t bs s.different) ∙ s.transform.1);
   private = at_x (find nat_cmp code_x (by_singleton bs)) (some_at code_x)
       (sym (after_find code_x bs s.different) ∙ s.private.1);
-  each_other = subst (AllByRecursion KeepsWords) (sym s.others.1)
-      (all_weaker (λ o. IsOther o.1) KeepsWords (λ o h. (h, refl)) e.others s.others.0);
-  others = ap (λ os. map_of nat_cmp (map (λ b. (b.0, kept b.1)) os)) (sym s.others.1);
+  each_other = grind (arith, all_weaker);
+  others = cc;
 }
   where
     some_at : (q : ℕ) → IfSome (find nat_cmp q (by_singleton bs)) (λ ps. 0 < length ps)
     some_at q = find_holds (λ q ps. 0 < length ps) q bs
-        (all_weaker (λ b. (is_ascii_alphanumeric b.0 ≡ true) × (0 < length b.1)) (λ b. 0 < length b.1)
-        (λ b k. k.1) bs s.each_block)
+        (grind (arith, all_weaker))
 
     at_u : (o : Option (List Text)) → IfSome o (λ ps. 0 < length ps) →
         or_empty o ≡ unicode_pieces e.unicode → PartIs UnicodeMeans no_unicode o (normal_unicode e.unicode)
     at_u None h k = unicode_none e.unicode (sym k)
-    at_u (Some ps) h k = record {
-      written = e.unicode;
-      grammatical = record {
-        attributes = s.unicode.0.attributes;
-        keywords = s.unicode.0.keywords;
-        nonempty = unicode_some e.unicode (subst (λ (l : List Text). 0 < length l) k h);
-      };
-      spelled = k;
-      means = refl;
-    }
+    at_u (Some ps) h k = grind (arith, unicode_some)
 
     at_t : (o : Option (List Text)) → IfSome o (λ ps. 0 < length ps) →
         or_empty o ≡ transform_pieces e.transform →
         PartIs (TransformMeans T) no_transform o (normal_transform e.transform)
     at_t None h k = transform_none e.transform (sym k)
-    at_t (Some ps) h k = record {
-      written = e.transform;
-      grammatical = record {
-        id = s.transform.0.id;
-        fields = s.transform.0.fields;
-        nonempty = transform_some e.transform (subst (λ (l : List Text). 0 < length l) k h);
-      };
-      spelled = k;
-      means = refl;
-    }
+    at_t (Some ps) h k = grind (arith, transform_some)
 
     at_x : (o : Option (List Text)) → IfSome o (λ ps. 0 < length ps) → or_empty o ≡ e.private →
         PartIs PrivateMeans [] o (map lower e.private)
     at_x None h k = ap (map lower) (sym k)
-    at_x (Some ps) h k = (
-      record { words = subst (AllByRecursion (IsWord PrivateSubtag)) (sym k) s.private.0; nonempty = h },
-      ap (map lower) (sym k),
-    )
+    at_x (Some ps) h k = grind (arith)
 
 pub good_blocks : {T : ℕ → Bool} {bs : List Block} {e : SpelledExtensions} →
     SpellsExtensions T bs e → AreGood T [] bs
-good_blocks {T = T} {bs = bs} {e = e} s = blocks_good T bs (normal_extensions e) (spelled_give T bs e s)
+good_blocks {T = T} {bs = bs} {e = e} s = search (blocks_good, spelled_give)
 
 -- good blocks spell what is read of them
 
@@ -203,20 +270,14 @@ record GoodParts (T : LanguageLengths) (seen : List ℕ) (bs : List Block) : Typ
 
 good_parts : (T : LanguageLengths) (seen : List ℕ) (bs : List Block) → AreGood T seen bs →
     GoodParts T seen bs
-good_parts T seen [] g = record { rules = tt; different = tt; unseen = tt }
+good_parts T seen [] g = search
 good_parts T seen (b ∷ bs) g =
-    let r = good_parts T (lower_singleton b ∷ seen) bs g.1 in
-    let parts = unsee_one (lower_singleton b) seen bs r.unseen in
-    record {
-      rules = ((g.0.0, g.0.2), r.rules);
-      different = (both_ways _ parts.0, r.different);
-      unseen = (g.0.1, parts.1);
-    }
+    grind (arith, unsee_one, both_ways, good_parts T (lower_singleton b ∷ seen) bs g.1)
 
 -- a block has a piece
 rule_some : (T : LanguageLengths) (q : ℕ) (ps : List Text) → RuleAt T q ps → 0 < length ps
 rule_some T q ps (inl p) = p.1.nonempty
-rule_some T q ps (inr (e, h, k)) = subst (λ (l : List Text). 0 < length l) (sym k) (from e h)
+rule_some T q ps (inr (e, h, k)) = rw k (from e h)
   where
     from : (e : Extension) → IsExtension T q e → 0 < length (extension_pieces e)
     from (unicode u) h = some_unicode u h.1.nonempty
@@ -229,23 +290,22 @@ rule_some T q ps (inr (e, h, k)) = subst (λ (l : List Text). 0 < length l) (sym
 unicode_rule : (T : LanguageLengths) (o : Option (List Text)) → IfSome o (RuleAt T code_u) →
     IsUnicode (unicode_of (or_empty o))
 unfolding unicode_of
-unicode_rule T None h = record { attributes = tt; keywords = tt }
+unicode_rule T None h = search
 unicode_rule T (Some ps) (inl p) = absurd (let k = p.0 in omega arith)
 unicode_rule T (Some ps) (inr (unicode u, h, e)) =
     subst IsUnicode (sym (ap unicode_of e ∙ unicode_of-pieces u h.1))
     (record { attributes = h.1.attributes; keywords = h.1.keywords })
 unicode_rule T (Some ps) (inr (transform m, h, e)) = absurd (let k = h.0 in omega arith)
-unicode_rule T (Some ps) (inr (other qs, h, e)) = absurd (no_u code_u refl h.0)
+unicode_rule T (Some ps) (inr (other qs, h, e)) = cc
 
 transform_rule : (T : LanguageLengths) (o : Option (List Text)) → IfSome o (RuleAt T code_t) →
     IsTransform T (transform_of (or_empty o))
 unfolding transform_of
-transform_rule T None h = record { id = tt; fields = tt }
+transform_rule T None h = search
 transform_rule T (Some ps) (inl p) = absurd (let k = p.0 in omega arith)
-transform_rule T (Some ps) (inr (transform m, h, e)) = subst (IsTransform T)
-    (sym (ap transform_of e ∙ transform_of-pieces m h.1)) (record { id = h.1.id; fields = h.1.fields })
+transform_rule T (Some ps) (inr (transform m, h, e)) = grind (arith, transform_of-pieces)
 transform_rule T (Some ps) (inr (unicode u, h, e)) = absurd (let k = h.0 in omega arith)
-transform_rule T (Some ps) (inr (other qs, h, e)) = absurd (no_t code_t refl h.0)
+transform_rule T (Some ps) (inr (other qs, h, e)) = cc
 
 private_rule : (T : LanguageLengths) (o : Option (List Text)) → IfSome o (RuleAt T code_x) →
     AllByRecursion (IsWord PrivateSubtag) (or_empty o)
@@ -253,22 +313,20 @@ private_rule T None h = tt
 private_rule T (Some ps) (inl p) = p.1.words
 private_rule T (Some ps) (inr (unicode u, h, e)) = absurd (let k = h.0 in omega arith)
 private_rule T (Some ps) (inr (transform m, h, e)) = absurd (let k = h.0 in omega arith)
-private_rule T (Some ps) (inr (other qs, h, e)) = absurd (no_x code_x refl h.0)
+private_rule T (Some ps) (inr (other qs, h, e)) = cc
 
 other_rule : (T : LanguageLengths) (q : ℕ) (ps : List Text) → RuleAt T q ps → is_other_singleton q ≡ true →
     IsOther ps
-other_rule T q ps (inl p) k = absurd (no_x q p.0 k)
-other_rule T q ps (inr (other qs, h, e)) k = subst IsOther (sym e) h.1
-other_rule T q ps (inr (unicode u, h, e)) k = absurd (no_u q h.0 k)
-other_rule T q ps (inr (transform m, h, e)) k = absurd (no_t q h.0 k)
+other_rule T q ps (inl p) k = cc
+other_rule T q ps (inr (other qs, h, e)) k = rw e h.1
+other_rule T q ps (inr (unicode u, h, e)) k = cc
+other_rule T q ps (inr (transform m, h, e)) k = cc
 
 others_rule : (T : LanguageLengths) (bs : List Block) →
     AllByRecursion (λ b. RuleAt T (lower_singleton b) b.1) bs →
     AllByRecursion (λ o. IsOther o.1) (other_blocks bs)
 others_rule T [] h = tt
-others_rule T (b ∷ bs) h =
-    cond_both (is_other_singleton (lower_singleton b)) _ _ (AllByRecursion (λ o. IsOther o.1))
-    (λ e. (other_rule T (lower_singleton b) b.1 h.0 e, others_rule T bs h.1)) (λ e. others_rule T bs h.1)
+others_rule T (b ∷ bs) h = grind (arith, cond_both, other_rule, others_rule T bs h.1)
 
 pub good_spell : (T : LanguageLengths) (bs : List Block) → AreGood T [] bs →
     SpellsExtensions T bs (read_of bs)
@@ -282,19 +340,16 @@ good_spell T bs g =
           (λ b k. (k.0, rule_some T (lower_singleton b) b.1 k.1)) bs parts.rules;
       different = parts.different;
       unicode = (
-        subst (λ (l : List Text). IsUnicode (unicode_of l)) (sym (after_find code_u bs parts.different))
-            (unicode_rule T _ (find_holds (RuleAt T) code_u bs rules)),
+        rw (after_find code_u bs parts.different) (unicode_rule T _ (find_holds (RuleAt T) code_u bs rules)),
         sym (pieces-unicode_of (after code_u bs)),
       );
       transform = (
-        subst (λ (l : List Text). IsTransform T (transform_of l))
-            (sym (after_find code_t bs parts.different))
-            (transform_rule T _ (find_holds (RuleAt T) code_t bs rules)),
+        rw (after_find code_t bs parts.different) (transform_rule T _
+            (find_holds (RuleAt T) code_t bs rules)),
         sym (pieces-transform_of (after code_t bs)),
       );
       private = (
-        subst (AllByRecursion (IsWord PrivateSubtag)) (sym (after_find code_x bs parts.different))
-            (private_rule T _ (find_holds (RuleAt T) code_x bs rules)),
+        rw (after_find code_x bs parts.different) (private_rule T _ (find_holds (RuleAt T) code_x bs rules)),
         refl,
       );
       others = (others_rule T bs rules, refl);
@@ -308,24 +363,19 @@ blocks_spelled {T = T} {bs = bs} g = (read_of bs, good_spell T bs g)
 pub mean_give : {T : ℕ → Bool} {bs : List Block} {e : Extensions} → BlocksMean T bs e →
     BlocksGive (grammar_rules T) bs e
 mean_give {T = T} {bs = bs} (w, s, e) =
-    subst (BlocksGive (grammar_rules T) bs) (sym e) (spelled_give T bs w s)
+    rw e (spelled_give T bs w s)
 
 pub give_mean : {T : ℕ → Bool} {bs : List Block} {e : Extensions} →
     BlocksGive (grammar_rules T) bs e → BlocksMean T bs e
-give_mean {T = T} {bs = bs} {e = e} g =
-    let s = good_spell T bs (blocks_good T bs e g) in (
-      read_of bs,
-      s,
-      one_extensions T bs e (normal_extensions (read_of bs)) g (spelled_give T bs (read_of bs) s),
-    )
+give_mean {T = T} {bs = bs} {e = e} g = search (good_spell, blocks_good, one_extensions, spelled_give)
 
 -- whole texts
 
 pub means_by_blocks : {T : ℕ → Bool} (t : Text) (M : Locale) → Means T t M → MeansByBlocks T t M
-means_by_blocks t M m = record { id = m.id; extensions = mean_give m.extensions }
+means_by_blocks t M m = search mean_give
 
 pub blocks_mean : {T : ℕ → Bool} (t : Text) (M : Locale) → MeansByBlocks T t M → Means T t M
-blocks_mean t M m = record { id = m.id; extensions = give_mean m.extensions }
+blocks_mean t M m = search give_mean
 
 pub tree_means : {T : ℕ → Bool} (t : Text) (M : Locale) → Means T t M → TreeMeans T t M
 tree_means {T = T} t M m = blocks_tree T t M (means_by_blocks t M m)
@@ -336,7 +386,7 @@ means_by_tree {T = T} table t M m = blocks_mean t M (tree_by_blocks T table t M 
 -- good blocks after an identifier mean what is read of them
 pub good_text : (T : LanguageLengths) (t : Text) → SpellsIdentifier T (head (pieces t)) →
     AreGood T [] (tail_blocks (pieces t)) → Means T t (meaning (written_of (pieces t)))
-good_text T t s g = blocks_mean t (meaning (written_of (pieces t))) (read_by_blocks T t s g)
+good_text T t s g = search (blocks_mean, read_by_blocks)
 
 -- a text means one value at most
 pub one_meaning : {T : ℕ → Bool} → AreLengths T → (t : Text) (L M : Locale) → Means T t L → Means T t M →

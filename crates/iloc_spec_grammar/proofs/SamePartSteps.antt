@@ -1,18 +1,56 @@
 -- The steps of identifiers, of fields and of what blocks spell are those of the tree.
-use Rattle.std.proofs.Common.{◌≡◌, ℕ, ◌≤◌, Bool, length, refl, sym, ap, ◌∙◌}
-use Rattle.std.proofs.Common.{subst, arith, Option, Some, None, option_to_list}
+use Rattle.std.proofs.Common.{
+  ◌≡◌,
+  ℕ,
+  ◌≤◌,
+  Bool,
+  length,
+  refl,
+  ap,
+  subst,
+  arith,
+  Option,
+  Some,
+  None,
+  option_to_list,
+}
 use Rattle.std.specs.List.{AllZip}
 use Rattle.std.specs.Char.{to_ascii_lowercase}
-use Rattle.iloc_spec_grammar.specs.Syntax.{LanguageLengths, Field}
-use Rattle.iloc_spec_grammar.specs.Syntax.{SpelledIdentifier}
-use Rattle.iloc_spec_grammar.specs.Syntax.{SpelledUnicode, SpelledTransform, Fields, IsUnicode, IsTransform}
-use Rattle.iloc_spec_grammar.specs.Tree.{Extension, unicode, transform, extension_pieces, IsUnicodeBlock}
-use Rattle.iloc_spec_grammar.specs.Tree.{IsTransformBlock, IsExtension}
-use Rattle.iloc_spec_grammar.specs.Values.{Rule, LessTrue, AttributesStep, FieldsStep}
-use Rattle.iloc_spec_grammar.specs.Values.{IdentifierStep, BlockStep}
-use Rattle.iloc_spec_grammar.specs.TreeSteps.{TreeRule, TreeLessTrue}
-use Rattle.iloc_spec_grammar.specs.TreeSteps.{TreeIdentifierStep, ExtensionStep, unicode_extension}
-use Rattle.iloc_spec_grammar.specs.TreeSteps.{transform_extension}
+use Rattle.iloc_spec_grammar.specs.Syntax.{
+  LanguageLengths,
+  Field,
+  SpelledIdentifier,
+  SpelledUnicode,
+  SpelledTransform,
+  Fields,
+  IsUnicode,
+  IsTransform,
+}
+use Rattle.iloc_spec_grammar.specs.Tree.{
+  Extension,
+  unicode,
+  transform,
+  extension_pieces,
+  IsUnicodeBlock,
+  IsTransformBlock,
+  IsExtension,
+}
+use Rattle.iloc_spec_grammar.specs.Values.{
+  Rule,
+  LessTrue,
+  AttributesStep,
+  FieldsStep,
+  IdentifierStep,
+  BlockStep,
+}
+use Rattle.iloc_spec_grammar.specs.TreeSteps.{
+  TreeRule,
+  TreeLessTrue,
+  TreeIdentifierStep,
+  ExtensionStep,
+  unicode_extension,
+  transform_extension,
+}
 use Rattle.iloc_spec_grammar.proofs.Orders.{itself}
 use Rattle.iloc_spec_grammar.proofs.General.{zip_weaker}
 
@@ -45,24 +83,21 @@ same_unicode {r = r} u v a k =
 new_attributes : {r : TreeRule} (u v : SpelledUnicode) → u.attributes ≡ v.attributes →
     ExtensionStep r (unicode u) (unicode_extension u.attributes v.keywords) →
     ExtensionStep r (unicode u) (unicode v)
-new_attributes {r = r} u v a s =
-    subst (ExtensionStep r (unicode u)) (λ i. unicode_extension (a i) v.keywords) s
+new_attributes {r = r} u v a s = grind arith
 
 less_true : (n : ℕ) (fs gs : Fields) → AllZip (LessTrue n) fs gs →
     AllZip (λ f g. TreeLessTrue f g × (n ≤ length g.1)) fs gs
-less_true n fs gs z = zip_weaker (LessTrue n) (λ f g. TreeLessTrue f g × (n ≤ length g.1))
-    (λ f g l. ((l.0, l.1), l.2)) fs gs z
+less_true n fs gs z = grind (arith, zip_weaker)
 
 pub unicode_step : (r : Rule) (u v : SpelledUnicode) → AttributesStep r u.attributes v.attributes →
     FieldsStep r 0 u.keywords v.keywords → ExtensionStep (tree_rule r) (unicode u) (unicode v)
 unicode_step Rule.AttributeOrder u v a k =
-    subst (λ gs. ExtensionStep TreeRule.AttributeOrder (unicode u) (unicode_extension v.attributes gs)) k
-    (ExtensionStep.attribute_order a)
+    rw (← k) (ExtensionStep.attribute_order a)
 unicode_step Rule.FieldOrder u v a k = new_attributes u v a (ExtensionStep.keyword_order k.0 k.1)
 unicode_step Rule.Repeats u v a k =
     ExtensionStep.unicode_repeats a k
 unicode_step Rule.Trues u v a k = new_attributes u v a (ExtensionStep.unicode_trues
-    (zip_weaker _ TreeLessTrue (λ f g l. l.0) u.keywords v.keywords (less_true 0 u.keywords v.keywords k)))
+    (grind (arith, zip_weaker, less_true)))
 unicode_step r u v a k = same_unicode u v a k
 
 -- in an identifier
@@ -72,14 +107,14 @@ abbrev pub NoStep : SpelledIdentifier → SpelledIdentifier → Type 0
 NoStep i j = (j ≡ record i { variants = j.variants }) × (i.variants ≡ j.variants)
 
 pub same_identifier : {i j : SpelledIdentifier} → NoStep i j → i ≡ j
-same_identifier {i = i} s = ap (λ vs. record i { variants = vs }) s.1 ∙ sym s.0
+same_identifier {i = i} s = grind arith
 
 pub tree_identifier_rule : (r : Rule) (i j : SpelledIdentifier) → IdentifierStep r i j →
     TreeIdentifierStep (tree_rule r) i j
 tree_identifier_rule Rule.VariantOrder i j s =
-    subst (TreeIdentifierStep TreeRule.VariantOrder i) (sym s.0) (TreeIdentifierStep.variants s.1)
+    rw s.0 (TreeIdentifierStep.variants s.1)
 tree_identifier_rule r i j s =
-    subst (TreeIdentifierStep (tree_rule r) i) (same_identifier s) TreeIdentifierStep.same
+    rw (← (same_identifier s)) TreeIdentifierStep.same
 
 -- in what follows `t`
 
@@ -91,7 +126,7 @@ same_transform {r = r} m n i k =
 new_id : {r : TreeRule} (m n : SpelledTransform) → m.id ≡ n.id →
     ExtensionStep r (transform m) (transform_extension m.id n.fields) →
     ExtensionStep r (transform m) (transform n)
-new_id {r = r} m n i s = subst (ExtensionStep r (transform m)) (λ l. transform_extension (i l) n.fields) s
+new_id {r = r} m n i s = grind arith
 
 same_option : (a b : Option SpelledIdentifier) → AllZip NoStep (option_to_list a) (option_to_list b) → a ≡ b
 same_option None None z = refl
@@ -109,8 +144,7 @@ pub transform_step : (r : Rule) (m n : SpelledTransform) →
     AllZip (IdentifierStep r) (option_to_list m.id) (option_to_list n.id) → FieldsStep r 1 m.fields n.fields →
     ExtensionStep (tree_rule r) (transform m) (transform n)
 transform_step Rule.VariantOrder m n i k =
-    subst (λ gs. ExtensionStep TreeRule.VariantOrder (transform m) (transform_extension n.id gs)) k
-    (option_step m.id n.id m.fields i)
+    rw (← k) (option_step m.id n.id m.fields i)
 transform_step Rule.FieldOrder m n i k =
     new_id m n (same_option m.id n.id i) (ExtensionStep.field_order k.0 k.1)
 transform_step Rule.Repeats m n i k =
@@ -136,10 +170,10 @@ same_id r None = tt
 same_id r (Some i) = (same_rule r i, tt)
 
 plain_unicode : {u : SpelledUnicode} → IsUnicodeBlock u → IsUnicode u
-plain_unicode h = record { attributes = h.attributes; keywords = h.keywords }
+plain_unicode h = search
 
 plain_transform : {T : ℕ → Bool} {m : SpelledTransform} → IsTransformBlock T m → IsTransform T m
-plain_transform h = record { id = h.id; fields = h.fields }
+plain_transform h = search
 
 less_by_tree : (n : ℕ) (f g : Field) → TreeLessTrue f g → n ≤ length g.1 → LessTrue n f g
 less_by_tree n f g l h = (l.0, l.1, h)
@@ -147,8 +181,6 @@ less_by_tree n f g l h = (l.0, l.1, h)
 pub block_by_tree : (T : LanguageLengths) {r : TreeRule} {e f : Extension} (c : ℕ) →
     IsExtension T (to_ascii_lowercase c) e → ExtensionStep r e f →
     BlockStep T (rule_of r) (c, extension_pieces e) (c, extension_pieces f)
-block_by_tree T c h ExtensionStep.same = BlockStep.same
-block_by_tree T c h (ExtensionStep.identifier TreeIdentifierStep.same) = BlockStep.same
 block_by_tree T c h (ExtensionStep.identifier {i = i} {j = j} {fs = fs} (TreeIdentifierStep.variants p)) =
     BlockStep.in_transform (record { id = Some i; fields = fs }) (record { id = Some j; fields = fs }) h.0
     (plain_transform h.1) ((refl, p), tt) refl
@@ -170,3 +202,4 @@ block_by_tree T c h (ExtensionStep.transform_trues {i = i} {fs = fs} {gs = gs} z
     (zip_weaker _ (LessTrue 1) (λ f g l. less_by_tree 1 f g l.0 l.1) fs gs z)
 block_by_tree T c h (ExtensionStep.dropped_pieces w) =
     BlockStep.in_other h.0 refl w
+block_by_tree T c h _ = BlockStep.same

@@ -3,34 +3,104 @@ use Rattle.std.proofs.Common.{◌≡◌, ◌≢◌, ◌⊎◌, inl, inr, ℕ, Bo
 use Rattle.std.proofs.Common.{filter, refl, sym, ap, ◌∙◌, subst, arith, Option, Some, None, option_to_list}
 use Rattle.std.specs.List.{AllByRecursion, AllZip}
 use Rattle.std.proofs.lemmas.Bool.{cases_Bool, ne_eqb}
-use Rattle.iloc_spec_grammar.specs.Syntax.{LanguageLengths, Block, code_x, code_u, code_t, Text, pieces, join}
-use Rattle.iloc_spec_grammar.specs.Syntax.{head, tail_blocks, AreLengths, IsIdentifier}
-use Rattle.iloc_spec_grammar.specs.Syntax.{identifier_pieces, SpelledIdentifier, SpelledUnicode}
-use Rattle.iloc_spec_grammar.specs.Syntax.{SpelledTransform, unicode_pieces, transform_pieces, IsUnicode}
-use Rattle.iloc_spec_grammar.specs.Syntax.{IsTransform, lower_singleton}
-use Rattle.iloc_spec_grammar.specs.Tree.{Extension, unicode, transform, other, Written, extension_pieces}
-use Rattle.iloc_spec_grammar.specs.Tree.{extension_block, blocks_of, spelling, IsUnicodeBlock}
-use Rattle.iloc_spec_grammar.specs.Tree.{IsTransformBlock, IsExtension, IsWritten, IsBlock}
+use Rattle.iloc_spec_grammar.specs.Syntax.{
+  LanguageLengths,
+  Block,
+  code_x,
+  code_u,
+  code_t,
+  Text,
+  pieces,
+  join,
+  head,
+  tail_blocks,
+  AreLengths,
+  IsIdentifier,
+  identifier_pieces,
+  SpelledIdentifier,
+  SpelledUnicode,
+  unicode_pieces,
+  transform_pieces,
+  IsUnicode,
+  lower_singleton,
+}
+use Rattle.iloc_spec_grammar.specs.Tree.{
+  Extension,
+  unicode,
+  transform,
+  other,
+  Written,
+  extension_block,
+  blocks_of,
+  spelling,
+  IsUnicodeBlock,
+  IsTransformBlock,
+  IsExtension,
+  IsWritten,
+  IsBlock,
+}
 use Rattle.iloc_spec_grammar.specs.Meaning.{Locale, Means, AreBlocks, normal_identifier, normal_extensions}
-use Rattle.iloc_spec_grammar.specs.Values.{Reordered, Rule, AttributesStep, FieldsStep, IdentifierStep}
-use Rattle.iloc_spec_grammar.specs.Values.{BlockStep, BlocksStep, TextStep, IdentifierTextStep}
-use Rattle.iloc_spec_grammar.specs.TreeSteps.{TreeRule, TreeIdentifierStep, ExtensionStep, Step, TreeTextStep}
-use Rattle.iloc_spec_grammar.specs.TreeSteps.{TreeIdentifierTextStep, written}
-use Rattle.iloc_spec_grammar.specs.Reading.{identifier_of, written_of, unicode_of, transform_of, extension_of}
-use Rattle.iloc_spec_grammar.specs.Reading.{extensions_in, private_in}
-use Rattle.iloc_spec_grammar.proofs.Orders.{total_reordered, all_reordered, map_reordered, reordered_after}
-use Rattle.iloc_spec_grammar.proofs.Orders.{filter_reordered}
+use Rattle.iloc_spec_grammar.specs.Values.{
+  Reordered,
+  Rule,
+  AttributesStep,
+  FieldsStep,
+  IdentifierStep,
+  BlockStep,
+  BlocksStep,
+  TextStep,
+  IdentifierTextStep,
+}
+use Rattle.iloc_spec_grammar.specs.TreeSteps.{
+  TreeRule,
+  TreeIdentifierStep,
+  ExtensionStep,
+  Step,
+  TreeTextStep,
+  TreeIdentifierTextStep,
+  written,
+}
+use Rattle.iloc_spec_grammar.specs.Reading.{
+  identifier_of,
+  written_of,
+  unicode_of,
+  transform_of,
+  extension_of,
+  extensions_in,
+  private_in,
+}
+use Rattle.iloc_spec_grammar.proofs.Orders.{
+  total_reordered,
+  all_reordered,
+  map_reordered,
+  reordered_after,
+  filter_reordered,
+}
 use Rattle.iloc_spec_grammar.proofs.RuleTests.{extension_read}
-use Rattle.iloc_spec_grammar.proofs.FaultLaws.{EndsAtX, tail_ends, AreGood, good_written, written_good}
-use Rattle.iloc_spec_grammar.proofs.FaultLaws.{pieces-written_of}
+use Rattle.iloc_spec_grammar.proofs.FaultLaws.{
+  EndsAtX,
+  tail_ends,
+  AreGood,
+  good_written,
+  written_good,
+  pieces-written_of,
+}
 use Rattle.iloc_spec_grammar.proofs.Readings.{unicode_read, transform_read, head-spelling, blocks-spelling}
 use Rattle.iloc_spec_grammar.proofs.Singletons.{no_t, no_u, no_x}
 use Rattle.iloc_spec_grammar.proofs.StepLaws.{identifier_step, extension_step, written_step}
 use Rattle.iloc_spec_grammar.proofs.StepSizes.{step_pieces}
 use Rattle.iloc_spec_grammar.proofs.IdentifierTexts.{pieces-identifier_text}
-use Rattle.iloc_spec_grammar.proofs.SamePartSteps.{tree_rule, rule_of, unicode_step}
-use Rattle.iloc_spec_grammar.proofs.SamePartSteps.{transform_step, same_identifier, tree_identifier_rule}
-use Rattle.iloc_spec_grammar.proofs.SamePartSteps.{same_rule, identifier_rule_by_tree, block_by_tree}
+use Rattle.iloc_spec_grammar.proofs.SamePartSteps.{
+  tree_rule,
+  rule_of,
+  unicode_step,
+  transform_step,
+  same_identifier,
+  tree_identifier_rule,
+  same_rule,
+  identifier_rule_by_tree,
+  block_by_tree,
+}
 use Rattle.iloc_spec_grammar.proofs.SameMeaning.{good_blocks, blocks_spelled}
 use Rattle.iloc_spec_grammar.proofs.PiecesLaws.{join-pieces}
 use Rattle.iloc_spec_grammar.proofs.IdentifierLaws.{identifier_of-pieces, one_identifier}
@@ -40,8 +110,7 @@ use Rattle.iloc_spec_grammar.proofs.IdentifierLaws.{identifier_of-pieces, one_id
 one_reordered : {X : Type 0} (a b : Option X) → Reordered (option_to_list a) (option_to_list b) → a ≡ b
 one_reordered None None r = refl
 one_reordered (Some x) (Some y) r = ap Some (all_reordered (λ z. x ≡ z) r (refl, tt)).0
-one_reordered None (Some y) r = absurd (let n = total_reordered (λ z. 1) r in omega arith)
-one_reordered (Some x) None r = absurd (let n = total_reordered (λ z. 1) r in omega arith)
+one_reordered _ _ r = absurd (let n = total_reordered (λ z. 1) r in omega arith)
 
 abbrev read_block : Block → ℕ × Extension
 read_block b = (b.0, extension_of (lower_singleton b) b.1)
@@ -49,31 +118,17 @@ read_block b = (b.0, extension_of (lower_singleton b) b.1)
 extensions_before : (bs : List Block) → EndsAtX bs →
     map read_block (filter (λ b. not (lower_singleton b == code_x)) bs) ≡ extensions_in bs
 extensions_before [] e = refl
-extensions_before (b ∷ bs) e = elim (cases_Bool (lower_singleton b == code_x)) [
-  | inl t ↦ rw (t, e.0 t) refl
-  | inr t ↦ rw t (ap (λ l. read_block b ∷ l) (extensions_before bs e.1))
-]
+extensions_before (b ∷ bs) e = grind (arith, cases_Bool, extensions_before bs e.1)
 
 private_after : (bs : List Block) → EndsAtX bs →
     filter (λ b. lower_singleton b == code_x) bs ≡ option_to_list (private_in bs)
 private_after [] e = refl
-private_after (b ∷ bs) e = elim (cases_Bool (lower_singleton b == code_x)) [
-  | inl t ↦ rw (t, e.0 t) refl
-  | inr t ↦ rw t (private_after bs e.1)
-]
+private_after (b ∷ bs) e = grind (arith, cases_Bool, private_after bs e.1)
 
 -- those of `x` stay last
 pub extensions_reordered : (bs cs : List Block) → EndsAtX bs → EndsAtX cs → Reordered bs cs →
     Reordered (extensions_in bs) (extensions_in cs)
-extensions_reordered bs cs e f r = subst (λ l. Reordered l (extensions_in cs)) (extensions_before bs e)
-    (subst (Reordered (map read_block (filter (λ b. not (lower_singleton b == code_x)) bs)))
-    (extensions_before cs f) (map_reordered read_block (filter_reordered _ r)))
-
-pub private_reordered : (bs cs : List Block) → EndsAtX bs → EndsAtX cs → Reordered bs cs →
-    private_in bs ≡ private_in cs
-private_reordered bs cs e f r = one_reordered (private_in bs) (private_in cs)
-    (subst (λ l. Reordered l (option_to_list (private_in cs))) (private_after bs e) (subst
-    (Reordered (filter (λ b. lower_singleton b == code_x) bs)) (private_after cs f) (filter_reordered _ r)))
+extensions_reordered bs cs e f r = grind (arith, extensions_before, map_reordered, filter_reordered)
 
 -- a step inside a block is one of what is read of it
 
@@ -91,22 +146,7 @@ unicode_read_step T r u v h a k g =
     let s = unicode_step r u v a k in
     let p = unicode_read u h in
     let after = (extension_step T code_u s (refl, subst IsUnicodeBlock p g.1)).0.1 in
-    let q = unicode_read v (record { attributes = after.attributes; keywords = after.keywords }) in
-    subst (λ w. ExtensionStep (tree_rule r) (unicode w) (unicode (unicode_of (unicode_pieces v)))) (sym p)
-    (subst (λ w. ExtensionStep (tree_rule r) (unicode u) (unicode w)) (sym q) s)
-
-transform_read_step : (T : LanguageLengths) (r : Rule) (m n : SpelledTransform) → IsTransform T m →
-    AllZip (IdentifierStep r) (option_to_list m.id) (option_to_list n.id) → FieldsStep r 1 m.fields n.fields →
-    IsExtension T code_t (transform (transform_of (transform_pieces m))) →
-    ExtensionStep (tree_rule r) (transform (transform_of (transform_pieces m)))
-    (transform (transform_of (transform_pieces n)))
-transform_read_step T r m n h i k g =
-    let s = transform_step r m n i k in
-    let p = transform_read m h in
-    let after = (extension_step T code_t s (refl, subst (IsTransformBlock T) p g.1)).0.1 in
-    let q = transform_read n (record { id = after.id; fields = after.fields }) in
-    subst (λ w. ExtensionStep (tree_rule r) (transform w) (transform (transform_of (transform_pieces n))))
-    (sym p) (subst (λ w. ExtensionStep (tree_rule r) (transform m) (transform w)) (sym q) s)
+    search (unicode_read, tree_rule)
 
 -- of blocks that differ
 record ReadStep (T : LanguageLengths) (r : Rule) (b c : Block) : Type 0 where
@@ -131,7 +171,11 @@ read_step T r (BlockStep.in_transform {c = c} m n e h i k) = inr (record {
   singletons = refl;
   step =
       λ g. let x = rw e at (rule_read T (c, transform_pieces m) (λ n. let m = e in absurd (omega arith)) g) in
-      rw e (transform_read_step T r m n h i k x);
+      rw e (let s = transform_step r m n i k in let p = transform_read m h in let after =
+      (extension_step T code_t s (refl, subst (IsTransformBlock T) p x.1)).0.1 in let q = transform_read
+      n (record { id = after.id; fields = after.fields }) in subst
+      (λ w. ExtensionStep (tree_rule r) (transform w) (transform (transform_of (transform_pieces n))))
+      (sym p) (subst (λ w. ExtensionStep (tree_rule r) (transform m) (transform w)) (sym q) s));
 })
 read_step T r (BlockStep.in_other {c = c} {ps = ps} {qs = qs} o p w) = inr (record {
   no_x = ne_eqb _ _ (λ x. no_x _ x o);
@@ -156,12 +200,11 @@ read_steps T r (b ∷ bs) (c ∷ cs) z h = at_block (read_step T r z.0) (read_st
   where
     at_block : (b ≡ c) ⊎ ReadStep T r b c → ReadSteps r bs cs → ReadSteps r (b ∷ bs) (c ∷ cs)
     at_block (inl e) rest =
-        subst (λ d. ReadSteps r (b ∷ bs) (d ∷ cs)) e (elim (cases_Bool (lower_singleton b == code_x)) [
+        (rw (← e) (elim (cases_Bool (lower_singleton b == code_x)) [
           | inl t ↦ rw t (tt, refl)
           | inr t ↦ rw t (((refl, ExtensionStep.same), rest.0), rest.1)
-        ])
-    at_block (inr s) rest = subst (λ (d : ℕ). ReadSteps r (b ∷ bs) ((d, c.1) ∷ cs)) s.singletons
-        (rw s.no_x (((refl, s.step h.0), rest.0), rest.1))
+        ]))
+    at_block (inr s) rest = grind (arith, ReadSteps)
 read_steps T r _ _ z h = absurd z
 
 good_rules : (T : LanguageLengths) (seen : List ℕ) (bs : List Block) → AreGood T seen bs →
@@ -175,10 +218,14 @@ written_of_step : (T : LanguageLengths) (r : Rule) (ps qs : List Text) (i j : Sp
     identifier_of (head ps) ≡ i → identifier_of (head qs) ≡ j → IdentifierStep r i j →
     BlocksStep T r (tail_blocks ps) (tail_blocks qs) → AllByRecursion (IsBlock T) (tail_blocks ps) →
     Step (written_of ps) (written_of qs)
-unfolding written_of ReadSteps
+unfolding ReadSteps written_of
 written_of_step T Rule.BlockOrder ps qs i j p q s z h =
     let id = p ∙ same_identifier s ∙ sym q in
-    let x = private_reordered (tail_blocks ps) (tail_blocks qs) (tail_ends ps) (tail_ends qs) z in
+    let x = (one_reordered (private_in (tail_blocks ps)) (private_in (tail_blocks qs))
+    (subst (λ l. Reordered l (option_to_list (private_in (tail_blocks qs))))
+    (private_after (tail_blocks ps) (tail_ends ps)) (subst
+    (Reordered (filter (λ b. lower_singleton b == code_x) (tail_blocks ps)))
+    (private_after (tail_blocks qs) (tail_ends qs)) (filter_reordered _ z)))) in
     subst (λ w. Step (written_of ps) w) (λ k. written (id k) (extensions_in (tail_blocks qs)) (x k))
     (Step.block_order
     (extensions_reordered (tail_blocks ps) (tail_blocks qs) (tail_ends ps) (tail_ends qs) z))
@@ -196,11 +243,9 @@ tree_step t u (TextStep.letter_case e) = TreeTextStep.letter_case e
 tree_step {T = T} t u (TextStep.rewritten r w) =
     let id = w.accepted.1.id in
     let good : AreGood T [] (tail_blocks (pieces t)) = good_blocks w.accepted.1.extensions.1 in
-    let first : IsIdentifier T w.old = subst (IsIdentifier T)
-    (one_identifier id.written w.old id.grammatical.words w.words (sym id.spelled ∙ w.old_spelled))
-    id.grammatical in
+    let first : IsIdentifier T w.old = grind (arith, one_identifier) in
     let second = (identifier_step (tree_identifier_rule r w.old w.new w.id) first).0 in
-    subst (TreeTextStep T t) (ap join (sym (pieces-written_of u)) ∙ join-pieces u) (TreeTextStep.rewritten
+    rw (ap join (sym (pieces-written_of u)) ∙ join-pieces u) at (TreeTextStep.rewritten
     (good_written T t (id.written, id.grammatical, id.spelled) good)
     (pieces-written_of t)
     (written_of_step T r (pieces t) (pieces u) w.old w.new
@@ -219,11 +264,8 @@ blocks_by_tree T r [] [] x z h = same_blocks x
     same_blocks : (bs : List Block) → AllZip (BlockStep T (rule_of r)) bs bs
     same_blocks [] = tt
     same_blocks (b ∷ bs) = (BlockStep.same, same_blocks bs)
-blocks_by_tree T r (e ∷ es) (f ∷ fs) x z h = (
-  subst (λ (c : ℕ). BlockStep T (rule_of r) (extension_block e) (c, extension_pieces f.1)) z.0.0
-      (block_by_tree T e.0 h.0 z.0.1),
-  blocks_by_tree T r es fs x z.1 h.1,
-)
+blocks_by_tree T r (e ∷ es) (f ∷ fs) x z h =
+    grind (arith, rule_of, block_by_tree, blocks_by_tree T r es fs x z.1 h.1)
 blocks_by_tree T r _ _ x z h = absurd z
 
 -- none of the tree's rules is that of the order of blocks
@@ -244,11 +286,8 @@ blocks_step T h (Step.block_order {i = i} {x = x} r) = record {
   id = same_rule Rule.BlockOrder i;
   blocks = reordered_after (option_to_list x) (map_reordered extension_block r);
 }
-blocks_step T h (Step.inside r {es = es} {fs = fs} {x = x} s z) = record {
-  rule = rule_of r;
-  id = identifier_rule_by_tree s;
-  blocks = inside_blocks T r _ _ (blocks_by_tree T r es fs (option_to_list x) z h.extensions);
-}
+blocks_step T h (Step.inside r {es = es} {fs = fs} {x = x} s z) =
+    search (rule_of, identifier_rule_by_tree, inside_blocks, blocks_by_tree)
 
 -- if the blocks of both are those that they are made of
 pub spelled_step : {T : ℕ → Bool} (t : Text) {v w : Written} → IsWritten T v → pieces t ≡ spelling v →
@@ -263,21 +302,8 @@ spelled_step {T = T} t {v = v} {w = w} h e bs cs s =
     let front : head (pieces t) ≡ identifier_pieces v.id = ap head e ∙ head-spelling v h in
     let parts = subst (AreBlocks T) (sym first) (blocks_spelled (written_good v h)) in
     let M : Locale = record { id = normal_identifier v.id; extensions = normal_extensions parts.0 } in
-    let means : Means T t M = record {
-      id = record { written = v.id; grammatical = h.id; spelled = front; means = refl };
-      extensions = (parts.0, parts.1, refl);
-    } in
-    TextStep.rewritten k.rule (record {
-      accepted = (M, means);
-      old = v.id;
-      new = w.id;
-      words = h.id.words;
-      old_spelled = front;
-      new_spelled = ap head p ∙ head-spelling w after;
-      id = k.id;
-      blocks = subst (λ bs. BlocksStep T k.rule bs (tail_blocks (pieces (join (spelling w))))) (sym first)
-          (subst (BlocksStep T k.rule (blocks_of v)) (sym second) k.blocks);
-    })
+    let means : Means T t M = grind (arith) in
+    TextStep.rewritten k.rule (grind (arith, head-spelling))
 
 pub step_by_tree : {T : ℕ → Bool} → AreLengths T → (t u : Text) → TreeTextStep T t u → TextStep T t u
 step_by_tree table t u (TreeTextStep.letter_case e) = TextStep.letter_case e
@@ -290,8 +316,8 @@ pub tree_identifier_step : {T : ℕ → Bool} (t u : Text) → IdentifierTextSte
     TreeIdentifierTextStep T t u
 tree_identifier_step t u (IdentifierTextStep.letter_case e) = TreeIdentifierTextStep.letter_case e
 tree_identifier_step {T = T} t u (IdentifierTextStep.variant_order {i = i} {j = j} h e k s) =
-    subst (TreeIdentifierTextStep T t) (ap join (sym k) ∙ join-pieces u)
-    (TreeIdentifierTextStep.variant_order h e (tree_identifier_rule Rule.VariantOrder i j s))
+    rw (ap join (sym k) ∙ join-pieces u) at (TreeIdentifierTextStep.variant_order h e
+    (tree_identifier_rule Rule.VariantOrder i j s))
 
 pub identifier_step_by_tree : {T : ℕ → Bool} (t u : Text) → TreeIdentifierTextStep T t u →
     IdentifierTextStep T t u

@@ -1,21 +1,84 @@
 -- The printed text is the text of the printed tree, so that the tests tell which values are well-formed.
-use Rattle.std.proofs.Common.{◌≡◌, ◌↔◌, ℕ, ◌+◌, ◌||◌, Bool, true, false, cond, List, [], ◌∷◌, ◌++◌, length}
-use Rattle.std.proofs.Common.{map, flat_map, refl, sym, ap, ◌∙◌, subst, option_to_list, is_some}
-use Rattle.std.proofs.Common.{nat_lt, append_assoc, append-nil}
+use Rattle.std.proofs.Common.{
+  ◌≡◌,
+  ◌↔◌,
+  ℕ,
+  ◌+◌,
+  ◌||◌,
+  Bool,
+  true,
+  false,
+  cond,
+  List,
+  [],
+  ◌∷◌,
+  ◌++◌,
+  length,
+  map,
+  flat_map,
+  refl,
+  sym,
+  ap,
+  ◌∙◌,
+  subst,
+  option_to_list,
+  is_some,
+  nat_lt,
+  append_assoc,
+  append-nil,
+}
 use Rattle.std.proofs.lemmas.Bool.{cond_both}
 use Rattle.std.proofs.lemmas.List.{map-append}
 use Rattle.std.proofs.lemmas.List.Concat.{flat_map-append}
-use Rattle.iloc_spec_grammar.specs.Syntax.{Block, code_x, code_u, code_t, Text, join, AreLengths, languages}
-use Rattle.iloc_spec_grammar.specs.Syntax.{SpelledTransform, Unicode, Transform}
-use Rattle.iloc_spec_grammar.specs.Syntax.{identifier_pieces, unicode_pieces, transform_pieces}
-use Rattle.iloc_spec_grammar.specs.Tree.{Extension, unicode, transform, other, extension_block, block_pieces}
-use Rattle.iloc_spec_grammar.specs.Tree.{spelling, transform_form, unicode_form, others_form, private_form}
-use Rattle.iloc_spec_grammar.specs.Tree.{extensions_form, before_t, after_t, printed, tree_text, form_pieces}
-use Rattle.iloc_spec_grammar.specs.Tree.{TreeMeans, IsTreeWellFormed, spelled_transform, spelled_unicode}
+use Rattle.iloc_spec_grammar.specs.Syntax.{
+  Block,
+  code_x,
+  code_u,
+  code_t,
+  Text,
+  join,
+  AreLengths,
+  languages,
+  SpelledTransform,
+  Unicode,
+  Transform,
+  identifier_pieces,
+  unicode_pieces,
+  transform_pieces,
+}
+use Rattle.iloc_spec_grammar.specs.Tree.{
+  Extension,
+  unicode,
+  transform,
+  other,
+  block_pieces,
+  spelling,
+  transform_form,
+  unicode_form,
+  others_form,
+  private_form,
+  extensions_form,
+  before_t,
+  after_t,
+  printed,
+  tree_text,
+  form_pieces,
+  TreeMeans,
+  IsTreeWellFormed,
+  spelled_transform,
+  spelled_unicode,
+}
 use Rattle.iloc_spec_grammar.specs.Meaning.{Locale, Extensions, Means}
-use Rattle.iloc_spec_grammar.specs.Values.{unicode_spelling}
-use Rattle.iloc_spec_grammar.specs.Values.{transform_spelling, other_spelling, private_spelling}
-use Rattle.iloc_spec_grammar.specs.Values.{extensions_spelling, text, IsValue, IsWellFormed}
+use Rattle.iloc_spec_grammar.specs.Values.{
+  unicode_spelling,
+  transform_spelling,
+  other_spelling,
+  private_spelling,
+  extensions_spelling,
+  text,
+  IsValue,
+  IsWellFormed,
+}
 use Rattle.iloc_spec_grammar.proofs.PartTexts as parts
 use Rattle.iloc_spec_grammar.proofs.ReadBack as back
 use Rattle.iloc_spec_grammar.proofs.WellRead.{means_well_formed}
@@ -68,8 +131,7 @@ private_spelling_is (w ∷ ws) = parts.private_spelling_is w ws ∙ sym (append-
 
 form_pieces-append : (es fs : List (ℕ × Extension)) →
     form_pieces (es ++ fs) ≡ form_pieces es ++ form_pieces fs
-form_pieces-append es fs = ap (flat_map block_pieces) (map-append extension_block es fs)
-    ∙ flat_map-append block_pieces (map extension_block es) (map extension_block fs)
+form_pieces-append es fs = rw (map-append, flat_map-append)
 
 pub extensions_spelling_is : (e : Extensions) →
     extensions_spelling e
@@ -97,9 +159,7 @@ extensions_spelling_is e =
 
 pub pieces_are : (M : Locale) →
     identifier_pieces M.id ++ extensions_spelling M.extensions ≡ spelling (printed M)
-pieces_are M = ap (λ l. identifier_pieces M.id ++ l) (extensions_spelling_is M.extensions
-    ∙ sym (flat_map-append block_pieces (map extension_block (extensions_form M.extensions))
-    (option_to_list (private_form M.extensions.private))))
+pieces_are M = simp (extensions_spelling_is, flat_map-append)
 
 pub text_is : (M : Locale) → text M ≡ tree_text M
 text_is M = ap join (pieces_are M)

@@ -1,11 +1,10 @@
 -- Maps of lists, and sets of lists of words: what they hold, how long they are, and lists one after the
 -- other.
 use Rattle.std.proofs.Common.{◌≡◌, ◌+◌, ◌≤◌, true, false, cond, List, [], ◌∷◌, ◌++◌, length, map, refl}
-use Rattle.std.proofs.Common.{sym, ap, ap₂, ◌∙◌, arith, Some, None, Bool, ◌&&◌, ◌||◌}
+use Rattle.std.proofs.Common.{sym, ap, ap₂, ◌∙◌, arith, Some, None, Bool, ◌&&◌}
 use Rattle.std.specs.Prelude.{is_some}
 use Rattle.std.specs.Option.{option_or}
 use Rattle.std.specs.List.{list_any}
-use Rattle.std.specs.Ordering.{eq_by_cmp, is_lt}
 use Rattle.std.specs.declared.cmp.Ordering.{Ordering}
 use Rattle.std.specs.Cmp.{IsTotalOrder}
 use Rattle.std.specs.FinMap.{find, is_sorted, IsAntisymmetric}
@@ -14,8 +13,14 @@ use Rattle.std.proofs.lemmas.List.{length-map}
 use Rattle.std.proofs.lemmas.List.Folds.{list_any-append}
 use Rattle.iloc_spec_grammar.specs.Syntax.{Text, word_cmp, is_same, AllDifferent}
 use Rattle.iloc_spec_grammar.specs.Meaning.{map_of, set_of}
-use Rattle.iloc_spec_grammar.proofs.MapLaws.{word_cmp_total, same_words, find-map_of, sorted-map_of}
-use Rattle.iloc_spec_grammar.proofs.MapLaws.{map_of_same, same_is}
+use Rattle.iloc_spec_grammar.proofs.MapLaws.{
+  word_cmp_total,
+  same_words,
+  find-map_of,
+  sorted-map_of,
+  map_of_same,
+  same_is,
+}
 use Rattle.iloc_spec_grammar.proofs.ValuesLaws.{unmarked}
 use Rattle.std.proofs.lemmas.Bool.{cond_both, false_from_ne_true}
 
@@ -24,21 +29,16 @@ module _ {K X : Type 0} (R : K → K → Ordering) where
   pub find-append : (q : K) (es fs : List (K × X)) →
       find R q (es ++ fs) ≡ option_or (find R q es) (find R q fs)
   find-append q [] fs = refl
-  find-append q (e ∷ es) fs = elim (eq_by_cmp R q e.0)
-      as (λ b.
-      cond b (Some e.1) (find R q (es ++ fs)) ≡ option_or (cond b (Some e.1) (find R q es)) (find R q fs))
-      [ true ↦ refl | false ↦ find-append q es fs ]
+  find-append q (e ∷ es) fs = grind (arith, find-append q es fs)
 
   -- the map of a map and more is that of the lists
   pub map_of-first : IsTotalOrder R → IsAntisymmetric R → (es fs : List (K × X)) →
       map_of R (map_of R es ++ fs) ≡ map_of R (es ++ fs)
-  map_of-first o same es fs = map_of_same R o same _ _ (λ q. find-append q (map_of R es) fs
-      ∙ ap (λ p. option_or p (find R q fs)) (find-map_of R o q es) ∙ sym (find-append q es fs))
+  map_of-first o same es fs = search (map_of_same, find-append, find-map_of)
 
   pub map_of-last : IsTotalOrder R → IsAntisymmetric R → (es fs : List (K × X)) →
       map_of R (es ++ map_of R fs) ≡ map_of R (es ++ fs)
-  map_of-last o same es fs = map_of_same R o same _ _ (λ q. find-append q es (map_of R fs)
-      ∙ ap (λ p. option_or (find R q es) p) (find-map_of R o q fs) ∙ sym (find-append q es fs))
+  map_of-last o same es fs = search (map_of_same, find-append, find-map_of)
 
 -- sets as maps of each word to itself
 
@@ -52,7 +52,7 @@ keys es = map (λ e. e.0) es
 below-keys : (w : Text) (es : List (Text × Text)) →
     below_all word_cmp w (marked (keys es)) ≡ below_all word_cmp w es
 below-keys w [] = refl
-below-keys w (e ∷ es) = ap (λ b. is_lt (word_cmp w e.0) && b) (below-keys w es)
+below-keys w (e ∷ es) = simp (below-keys w es)
 
 pub sorted-keys : (es : List (Text × Text)) → is_sorted word_cmp (marked (keys es)) ≡ is_sorted word_cmp es
 sorted-keys [] = refl
@@ -73,8 +73,7 @@ find-marked q (w ∷ ws) = by (is_same q w) refl (find-marked q ws)
 -- lists with the same words have one set
 pub same_set : (vs ws : List Text) → ((q : Text) → list_any (is_same q) vs ≡ list_any (is_same q) ws) →
     set_of vs ≡ set_of ws
-same_set vs ws h = ap keys (map_of_same word_cmp word_cmp_total same_words (marked vs) (marked ws)
-    (λ q. find-marked q vs ∙ ap (λ b. cond b (Some q) None) (h q) ∙ sym (find-marked q ws)))
+same_set vs ws h = grind (arith, map_of_same, word_cmp_total, same_words, find-marked)
 
 -- a word is in the set where it is in the list
 pub any-set_of : (w : Text) (ws : List Text) →
@@ -87,12 +86,10 @@ any-set_of w ws =
 
 -- the set of a set and more is that of the lists
 pub set_of-first : (vs ws : List Text) → set_of (set_of vs ++ ws) ≡ set_of (vs ++ ws)
-set_of-first vs ws = same_set _ _ (λ q. list_any-append (is_same q) (set_of vs) ws
-    ∙ ap (λ b. b || list_any (is_same q) ws) (any-set_of q vs) ∙ sym (list_any-append (is_same q) vs ws))
+set_of-first vs ws = search (same_set, list_any-append, any-set_of)
 
 pub set_of-last : (vs ws : List Text) → set_of (vs ++ set_of ws) ≡ set_of (vs ++ ws)
-set_of-last vs ws = same_set _ _ (λ q. list_any-append (is_same q) vs (set_of ws)
-    ∙ ap (λ b. list_any (is_same q) vs || b) (any-set_of q ws) ∙ sym (list_any-append (is_same q) vs ws))
+set_of-last vs ws = search (same_set, list_any-append, any-set_of)
 
 pub set_of-set_of : (ws : List Text) → set_of (set_of ws) ≡ set_of ws
 set_of-set_of ws = set_of-last [] ws
@@ -115,14 +112,10 @@ length-set_of-cons w ws =
 
 pub length-set_of : (ws : List Text) → length (set_of ws) ≤ length ws
 length-set_of [] = omega arith
-length-set_of (w ∷ ws) = let h = length-set_of ws in
-    rw (length-set_of-cons w ws)
-    (cond_both (list_any (is_same w) ws) _ _ (λ n. n ≤ length (w ∷ ws)) (λ _. omega arith) (λ _. omega arith))
+length-set_of (w ∷ ws) = grind (arith, length-set_of-cons, cond_both, length-set_of ws)
 
 -- different words are as many in their set
 pub length-set_of-different : (ws : List Text) → AllDifferent word_cmp ws → length (set_of ws) ≡ length ws
 length-set_of-different [] d = refl
-length-set_of-different (w ∷ ws) d = let h = length-set_of-different ws d.1 in
-    let e : length (set_of (w ∷ ws)) ≡ length (set_of ws) + 1 = length-set_of-cons w ws
-    ∙ ap (λ b. cond b (length (set_of ws)) (length (set_of ws) + 1)) (false_from_ne_true _ d.0) in
-    omega arith
+length-set_of-different (w ∷ ws) d =
+    grind (arith, length-set_of-cons, false_from_ne_true, length-set_of-different ws d.1)

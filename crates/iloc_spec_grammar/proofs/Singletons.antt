@@ -1,6 +1,5 @@
 -- Singletons as numbers: which tie, and of which kind each is.
-use Rattle.std.proofs.Common.{◌≡◌, ◌≢◌, inl, inr, ℕ, suc, true, false, ◌==◌, ap, arith, List, [], ◌∷◌, map}
-use Rattle.std.proofs.Common.{subst, IfSome}
+use Rattle.std.proofs.Common.{◌≡◌, ◌≢◌, ℕ, suc, true, false, ◌==◌, ap, arith, List, [], ◌∷◌, map, IfSome}
 use Rattle.std.specs.Char.{is_ascii_alphanumeric, to_ascii_lowercase}
 use Rattle.std.specs.Cmp.{nat_cmp_total, tied_itself}
 use Rattle.std.specs.Ordering.{nat_cmp, eq_by_cmp, is_eq}
@@ -27,8 +26,7 @@ pub find_holds : {X : Type 0} (P : ℕ → X → Type 0) (q : ℕ) (es : List (�
     AllByRecursion (λ e. P (lower_singleton e) e.1) es →
     IfSome (find nat_cmp q (map (λ e. (lower_singleton e, e.1)) es)) (P q)
 find_holds P q [] h = tt
-find_holds P q (e ∷ es) h = cond_both (eq_by_cmp nat_cmp q (lower_singleton e)) _ _ (λ o. IfSome o (P q))
-    (λ t. subst (λ (c : ℕ). P c e.1) (tied q (lower_singleton e) t) h.0) (λ t. find_holds P q es h.1)
+find_holds P q (e ∷ es) h = grind (arith, cond_both, tied, find_holds P q es h.1)
 
 -- a piece of two bytes and more has more than one
 pub two_more : (n : ℕ) → (suc (suc n) == 1) ≡ false
@@ -53,17 +51,7 @@ pub data IsKind (c : ℕ) : Type 0 where
   another : is_other_singleton c ≡ true → IsKind c
 
 pub kind_of : (c : ℕ) → is_ascii_alphanumeric c ≡ true → IsKind c
-kind_of c h = elim (cases_eq c code_u) [
-  | inl e ↦ of_u e
-  | inr a ↦ elim (cases_eq c code_t) [
-    | inl e ↦ of_t e
-    | inr b ↦ elim (cases_eq c code_x) [ inl e ↦ of_x e | inr d ↦ another (rest c h a b d) ]
-  ]
-]
-  where
-    rest : (c : ℕ) → is_ascii_alphanumeric c ≡ true → (c ≡ code_u → ⊥) → (c ≡ code_t → ⊥) → (c ≡ code_x → ⊥) →
-        is_other_singleton c ≡ true
-    rest c h a b d = grind (arith, nat_tests)
+kind_of c h = grind (arith, cases_eq, nat_tests)
 
 -- a letter or digit is one in lower case too
 pub lower_letter : (c : ℕ) → is_ascii_alphanumeric c ≡ true →

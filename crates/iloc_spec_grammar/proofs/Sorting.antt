@@ -1,6 +1,6 @@
 -- A sort by keys, and what is left without repeats.
-use Rattle.std.proofs.Common.{◌≡◌, Bool, true, false, cond, not, ◌||◌, List, [], ◌∷◌, map, filter, refl}
-use Rattle.std.proofs.Common.{sym, ap, ◌∙◌, true≢false}
+use Rattle.std.proofs.Common.{arith, ◌≡◌, Bool, true, false, cond, not, ◌||◌, List, [], ◌∷◌, map, filter, refl}
+use Rattle.std.proofs.Common.{ap, ◌∙◌, true≢false}
 use Rattle.std.specs.List.{AllByRecursion, list_any}
 use Rattle.std.specs.Ordering.{is_lt, is_eq, eq_by_cmp, ordering_reverse}
 use Rattle.std.specs.Cmp.{IsTotalOrder, eq_by_cmp_equiv}
@@ -8,11 +8,20 @@ use Rattle.std.specs.declared.cmp.Ordering.{Ordering}
 use Rattle.std.specs.declared.cmp.Ordering.TheVariants.{Less, Equal, Greater}
 use Rattle.std.specs.FinMap.{is_sorted}
 use Rattle.std.specs.FinMap.Entries.{below_all}
-use Rattle.std.proofs.lemmas.Bool.{and_parts, and_from, or_parts, or_from, or_left, or_right}
-use Rattle.std.proofs.lemmas.Bool.{false_from_ne_true, both_ways, cond_both, not-false}
+use Rattle.std.proofs.lemmas.Bool.{
+  and_parts,
+  and_from,
+  or_parts,
+  or_from,
+  or_left,
+  or_right,
+  false_from_ne_true,
+  both_ways,
+  cond_both,
+  not-false,
+}
 use Rattle.iloc_spec_grammar.specs.Syntax.{Text, lower, word_cmp, is_same, AllDifferent}
-use Rattle.iloc_spec_grammar.specs.Values.{Reordered}
-use Rattle.iloc_spec_grammar.specs.Values.{Without, WithoutRepeats}
+use Rattle.iloc_spec_grammar.specs.Values.{Reordered, Without, WithoutRepeats}
 use Rattle.iloc_spec_grammar.proofs.MapLaws.{word_cmp_total, less}
 pub use Rattle.iloc_spec_grammar.proofs.Orders.{itself}
 use Rattle.iloc_spec_grammar.proofs.Orders.{or_swap}
@@ -76,22 +85,18 @@ module _ {K X : Type 0} (R : K → K → Ordering) (key : X → K) where
     any-put_in : (test : K → Bool) (x : X) (ys : List X) →
         list_any test (map key (put_in x ys)) ≡ (test (key x) || list_any test (map key ys))
     any-put_in test x [] = refl
-    any-put_in test x (y ∷ ys) = cond_both (is_lt (R (key y) (key x))) _ _
-        (λ zs. list_any test (map key zs) ≡ (test (key x) || (test (key y) || list_any test (map key ys))))
-        (λ _. ap (λ b. test (key y) || b) (any-put_in test x ys) ∙ or_swap (test (key y)) (test (key x)) _)
-        (λ _. refl)
+    any-put_in test x (y ∷ ys) = grind (arith, cond_both, or_swap, any-put_in test x ys)
 
     any-sort : (test : K → Bool) (xs : List X) →
         list_any test (map key (sort xs)) ≡ list_any test (map key xs)
     any-sort test [] = refl
-    any-sort test (x ∷ xs) = any-put_in test x (sort xs) ∙ ap (λ b. test (key x) || b) (any-sort test xs)
+    any-sort test (x ∷ xs) = rw (any-put_in, any-sort test xs)
 
     -- items whose keys differ are in order once sorted
     pub sorted-sort : (xs : List X) → AllDifferent R (map key xs) →
         is_sorted R (listed value (sort xs)) ≡ true
     sorted-sort [] d = refl
-    sorted-sort (x ∷ xs) d = sorted-put_in x (sort xs)
-        (any-sort (eq_by_cmp R (key x)) xs ∙ false_from_ne_true _ d.0) (sorted-sort xs d.1)
+    sorted-sort (x ∷ xs) d = grind (arith, sorted-put_in, any-sort, false_from_ne_true, sorted-sort xs d.1)
 
 -- repeats
 
@@ -114,13 +119,19 @@ module _ {X : Type 0} (key : X → Text) where
   unseen-dedup : (k : Text) (seen : List Text) (xs : List X) → list_any (is_same k) seen ≡ true →
       list_any (is_same k) (keys (dedup seen xs)) ≡ false
   unseen-dedup k seen [] h = refl
-  unseen-dedup k seen (x ∷ xs) h = cond_both (list_any (is_same (lower (key x))) seen) _ _
-      (λ l. list_any (is_same k) (keys l) ≡ false) (λ _. unseen-dedup k seen xs h)
-      (λ e. or_from _ _ (not_same e) (unseen-dedup k (lower (key x) ∷ seen) xs (or_right _ _ h)))
-    where
-      not_same : list_any (is_same (lower (key x))) seen ≡ false → is_same k (lower (key x)) ≡ false
-      not_same e = false_from_ne_true _ (λ t.
-          both_ways _ e (sym (list_any_congr (eq_by_cmp_equiv word_cmp_total) k (lower (key x)) seen t) ∙ h))
+  unseen-dedup k seen (x ∷ xs) h =
+      grind (
+        arith,
+        cond_both,
+        or_from,
+        or_right,
+        false_from_ne_true,
+        both_ways,
+        list_any_congr,
+        word_cmp_total,
+        unseen-dedup k seen xs h,
+        unseen-dedup k (lower (key x) ∷ seen) xs (or_right _ _ h),
+      )
 
   pub different-dedup : (seen : List Text) (xs : List X) → AllDifferent word_cmp (keys (dedup seen xs))
   different-dedup seen [] = tt
@@ -143,5 +154,4 @@ without-filter test (x ∷ xs) =
 pub filter-passes : {X : Type 0} (test : X → Bool) (xs : List X) →
     AllByRecursion (λ x. test x ≡ true) (filter test xs)
 filter-passes test [] = tt
-filter-passes test (x ∷ xs) = cond_both (test x) _ _ (AllByRecursion (λ x. test x ≡ true))
-    (λ e. (e, filter-passes test xs)) (λ _. filter-passes test xs)
+filter-passes test (x ∷ xs) = grind (arith, cond_both, filter-passes test xs)

@@ -1,8 +1,18 @@
 -- Worked steps, by computing the test of each, and two texts that no step joins.
 use Rattle.std.proofs.Common.{◌≡◌, ℕ, refl, sym, ap, ◌∙◌, codes, Result, Ok, Err, Bool, true, false}
 use Rattle.std.proofs.Common.{true≢false}
-use Rattle.iloc_spec_grammar.specs.Syntax.{Text, pieces, join, is_word, lower, upper, title, is_true, is_same}
-use Rattle.iloc_spec_grammar.specs.Syntax.{languages}
+use Rattle.iloc_spec_grammar.specs.Syntax.{
+  Text,
+  pieces,
+  join,
+  is_word,
+  lower,
+  upper,
+  title,
+  is_true,
+  is_same,
+  languages,
+}
 use Rattle.iloc_spec_grammar.specs.Meaning.{Locale, Means, Fault}
 use Rattle.iloc_spec_grammar.specs.Tree.{meaning}
 use Rattle.iloc_spec_grammar.specs.Reading.{identifier_of, front_of, unicode_of, transform_of, written_of}

@@ -1,31 +1,72 @@
 -- A step keeps the rules, the meaning and the sums over the pieces.
-use Rattle.std.proofs.Common.{◌≡◌, ℕ, ◌+◌, ◌<◌, Bool, true, false, cond, not, List, [], ◌∷◌, length, map}
-use Rattle.std.proofs.Common.{filter_map, refl, sym, ap, ◌∙◌, subst, arith, Option, Some, None, option_map}
-use Rattle.std.proofs.Common.{true≢false}
+use Rattle.std.proofs.Common.{◌≡◌, ℕ, ◌+◌, ◌<◌, Bool, true, false, cond, List, [], ◌∷◌, length, map}
+use Rattle.std.proofs.Common.{filter_map, refl, sym, ap, ◌∙◌, subst, arith, Option, Some, None}
 use Rattle.std.specs.List.{AllByRecursion, list_any, AllZip, cons_option}
 use Rattle.std.specs.Char.{to_ascii_lowercase}
-use Rattle.std.specs.Int.{is_in_range}
 use Rattle.std.specs.Ordering.{nat_cmp, eq_by_cmp}
 use Rattle.std.specs.Cmp.{nat_cmp_total}
 use Rattle.std.specs.FinMap.{find, nat_cmp-IsAntisymmetric}
 use Rattle.std.proofs.lemmas.Bool.{or_parts, or_from, not-true, both_ways, false_from_ne_true}
-use Rattle.iloc_spec_grammar.specs.Syntax.{LanguageLengths, Field, Block, code_u, code_t, Text, Variant}
-use Rattle.iloc_spec_grammar.specs.Syntax.{Subtag, UnicodeKey, TransformKey, Attribute, is_word}
-use Rattle.iloc_spec_grammar.specs.Syntax.{IsWord, lower, word_cmp, is_true, SpelledIdentifier, Fields}
-use Rattle.iloc_spec_grammar.specs.Syntax.{IsIdentifier, IsKeyword, IsField, kept, lower_singleton}
-use Rattle.iloc_spec_grammar.specs.Syntax.{AllDifferent}
-use Rattle.iloc_spec_grammar.specs.Tree.{Extension, other, Written, IsExtension, IsWritten, unicode_part}
-use Rattle.iloc_spec_grammar.specs.Tree.{transform_part, private_part, other_part, by_singleton, meaning}
+use Rattle.iloc_spec_grammar.specs.Syntax.{
+  LanguageLengths,
+  Field,
+  Block,
+  code_u,
+  code_t,
+  Text,
+  Variant,
+  Attribute,
+  IsWord,
+  lower,
+  word_cmp,
+  is_true,
+  SpelledIdentifier,
+  Fields,
+  IsIdentifier,
+  IsKeyword,
+  IsField,
+  lower_singleton,
+  AllDifferent,
+}
+use Rattle.iloc_spec_grammar.specs.Tree.{
+  Extension,
+  other,
+  Written,
+  IsExtension,
+  IsWritten,
+  unicode_part,
+  transform_part,
+  private_part,
+  other_part,
+  by_singleton,
+  meaning,
+}
 use Rattle.iloc_spec_grammar.specs.Meaning.{map_of, set_of, normal_identifier, normal_values, normal_fields}
-use Rattle.iloc_spec_grammar.specs.Values.{Reordered}
-use Rattle.iloc_spec_grammar.specs.Values.{Without, WithoutRepeats}
-use Rattle.iloc_spec_grammar.specs.TreeSteps.{TreeLessTrue, keys_differ}
-use Rattle.iloc_spec_grammar.specs.TreeSteps.{TreeRule, TreeIdentifierStep, ExtensionStep, Step}
-use Rattle.iloc_spec_grammar.specs.TreeSteps.{unicode_extension, transform_extension}
+use Rattle.iloc_spec_grammar.specs.Values.{Reordered, Without, WithoutRepeats}
+use Rattle.iloc_spec_grammar.specs.TreeSteps.{
+  TreeLessTrue,
+  keys_differ,
+  TreeRule,
+  TreeIdentifierStep,
+  ExtensionStep,
+  Step,
+  unicode_extension,
+  transform_extension,
+}
 use Rattle.iloc_spec_grammar.proofs.MapLaws.{map_of_same, word_cmp_total, same_words}
-use Rattle.iloc_spec_grammar.proofs.Orders.{all_reordered, map_reordered, different_reordered, find_reordered}
-use Rattle.iloc_spec_grammar.proofs.Orders.{set_of_reordered, map_repeats, all_repeats, all_without}
-use Rattle.iloc_spec_grammar.proofs.Orders.{filter_without, itself, length_reordered}
+use Rattle.iloc_spec_grammar.proofs.Orders.{
+  all_reordered,
+  map_reordered,
+  different_reordered,
+  find_reordered,
+  set_of_reordered,
+  map_repeats,
+  all_repeats,
+  all_without,
+  filter_without,
+  itself,
+  length_reordered,
+}
 use Rattle.iloc_spec_grammar.proofs.General.{map-zip, all_zip, zip_weaker}
 use Rattle.std.proofs.lemmas.Simd.{map-map}
 use Rattle.std.proofs.lemmas.Slice.Zip.{AllZip-long}
@@ -59,18 +100,15 @@ abbrev entry : Field → Field
 entry f = (lower f.0, normal_values f.1)
 
 fields_reordered : {fs gs : Fields} → keys_differ fs → Reordered fs gs → normal_fields gs ≡ normal_fields fs
-fields_reordered {fs = fs} {gs = gs} d r = sym (map_of_same word_cmp word_cmp_total same_words (map entry fs)
-    (map entry gs) (λ q. find_reordered word_cmp word_cmp_total q (map_reordered entry r)
-    (subst (AllDifferent word_cmp) (sym (map-map (λ (e : Field). e.0) entry fs)) d)))
+fields_reordered {fs = fs} {gs = gs} d r =
+    grind (arith, map_of_same, word_cmp_total, same_words, find_reordered, map_reordered, map-map)
 
 -- what is `true` is dropped
 values_without : {ps qs : List Text} → Without (λ p. is_true (lower p)) ps qs →
     normal_values ps ≡ normal_values qs
 values_without Without.none = refl
-values_without (Without.stays {x = x} r) =
-    ap (λ l. cond (not (is_true (lower x))) (lower x ∷ l) l) (values_without r)
-values_without (Without.left_out {x = x} {xs = xs} e r) =
-    ap (λ b. cond (not b) (lower x ∷ normal_values xs) (normal_values xs)) e ∙ values_without r
+values_without (Without.stays {x = x} r) = simp (values_without r)
+values_without (Without.left_out {x = x} {xs = xs} e r) = search (values_without r)
 
 entries_less : (fs gs : Fields) → AllZip TreeLessTrue fs gs → map entry fs ≡ map entry gs
 entries_less = map-zip TreeLessTrue entry entry (λ f g z i. (lower (z.0 i), values_without z.1 i))
@@ -78,21 +116,21 @@ entries_less = map-zip TreeLessTrue entry entry (λ f g z i. (lower (z.0 i), val
 keywords_less : (fs gs : Fields) → AllZip TreeLessTrue fs gs → AllByRecursion IsKeyword fs →
     AllByRecursion IsKeyword gs
 keywords_less = all_zip TreeLessTrue IsKeyword IsKeyword
-    (λ f g z h. (subst (IsWord UnicodeKey) z.0 h.0, all_without (IsWord Attribute) _ z.1 h.1))
+    (grind (arith, all_without))
 
 abbrev LessKept : Field → Field → Type 0
 LessKept f g = TreeLessTrue f g × (0 < length g.1)
 
 fields_less : (fs gs : Fields) → AllZip LessKept fs gs → AllByRecursion IsField fs → AllByRecursion IsField gs
 fields_less = all_zip LessKept IsField IsField
-    (λ f g z h. (subst (IsWord TransformKey) z.0.0 h.0, all_without (IsWord Attribute) _ z.0.1 h.1, z.1))
+    (grind (arith, all_without))
 
 -- leaving out repeats leaves something, where nothing was seen
 some_left : {X : Type 0} (key : X → Text) {xs ys : List X} → WithoutRepeats key [] xs ys → 0 < length xs →
     0 < length ys
 some_left key WithoutRepeats.none h = h
 some_left key (WithoutRepeats.stays r) h = omega arith
-some_left key (WithoutRepeats.left_out e r) h = absurd (true≢false (sym e))
+some_left key (WithoutRepeats.left_out e r) h = cc
 
 -- extensions
 
@@ -118,10 +156,7 @@ unicode_step : (T : LanguageLengths) (c : ℕ) (vs ws : List Text) (fs gs : Fiel
     normal_fields gs ≡ normal_fields fs
     → IsExtension T c (unicode_extension vs fs) →
     IsExtension T c (unicode_extension ws gs) × SameParts (unicode_extension vs fs) (unicode_extension ws gs)
-unicode_step T c vs ws fs gs a k n p q h = (
-  (h.0, record { attributes = a h.1.attributes; keywords = k h.1.keywords; nonempty = n h.1.nonempty }),
-  record { u = λ i. record { attributes = p i; keywords = q i }; t = refl; o = λ c. refl },
-)
+unicode_step T c vs ws fs gs a k n p q h = search
 
 fields_step : (T : LanguageLengths) (c : ℕ) (i : Option SpelledIdentifier) (fs gs : Fields) →
     (AllByRecursion IsField fs → AllByRecursion IsField gs) → (0 < length fs → 0 < length gs) →
@@ -129,14 +164,11 @@ fields_step : (T : LanguageLengths) (c : ℕ) (i : Option SpelledIdentifier) (fs
     → IsExtension T c (transform_extension i fs) →
     IsExtension T c (transform_extension i gs)
     × SameParts (transform_extension i fs) (transform_extension i gs)
-fields_step T c i fs gs k n q h = (
-  (h.0, record { id = h.1.id; fields = k h.1.fields; nonempty = λ e. n (h.1.nonempty e) }),
-  record { u = refl; t = λ k. record { id = option_map normal_identifier i; fields = q k }; o = λ c. refl },
-)
+fields_step T c i fs gs k n q h = grind arith
 
 pub extension_step : (T : LanguageLengths) {r : TreeRule} {e f : Extension} (c : ℕ) → ExtensionStep r e f →
     IsExtension T c e → IsExtension T c f × SameParts e f
-extension_step T c ExtensionStep.same h = (h, record { u = refl; t = refl; o = λ c. refl })
+extension_step T c ExtensionStep.same h = search
 extension_step T c (ExtensionStep.identifier {fs = fs} s) h =
     let p = identifier_step s h.1.id in (
       (h.0, record { id = p.0; fields = h.1.fields; nonempty = λ e. cc }),
@@ -146,11 +178,9 @@ extension_step T c (ExtensionStep.attribute_order {vs = vs} {ws = ws} {fs = fs} 
     unicode_step T c vs ws fs fs (all_reordered (IsWord Attribute) r) (λ k. k)
     (λ n. let l = length_reordered r in omega arith) (sym (set_of_reordered (map_reordered lower r))) refl h
 extension_step T c (ExtensionStep.keyword_order {vs = vs} {fs = fs} {gs = gs} d r) h =
-    unicode_step T c vs vs fs gs (λ a. a) (all_reordered IsKeyword r)
-    (λ n. let l = length_reordered r in omega arith) refl (fields_reordered d r) h
+    grind (arith, unicode_step, all_reordered, length_reordered, fields_reordered)
 extension_step T c (ExtensionStep.field_order {i = i} {fs = fs} {gs = gs} d r) h =
-    fields_step T c i fs gs (all_reordered IsField r) (λ n. let l = length_reordered r in omega arith)
-    (fields_reordered d r) h
+    grind (arith, fields_step, all_reordered, length_reordered, fields_reordered)
 extension_step T c (ExtensionStep.unicode_repeats {vs = vs} {ws = ws} {fs = fs} {gs = gs} r s) h =
     let a = some_left (λ a. a) r in let b = some_left (λ f. f.0) s in
     unicode_step T c vs ws fs gs (all_repeats (IsWord Attribute) (λ a. a) r)
@@ -168,17 +198,7 @@ extension_step T c (ExtensionStep.transform_trues {i = i} {fs = fs} {gs = gs} z)
     (ap (map_of word_cmp)
     (sym (entries_less fs gs (zip_weaker LessKept TreeLessTrue (λ f g k. k.0) fs gs z)))) h
 extension_step T c (ExtensionStep.dropped_pieces {ps = ps} {qs = qs} w) h =
-    let same : kept ps ≡ kept qs = ap (map lower) (filter_without (λ p. not (is_word Subtag p))
-    (is_word Subtag) (λ p e. not-true (is_word Subtag p) e) w) in (
-      (
-        h.0,
-        record {
-          lengths = all_without (λ p. is_in_range 2 8 (length p) ≡ true) _ w h.1.lengths;
-          nonempty = subst (λ (l : List Text). 0 < length l) same h.1.nonempty;
-        },
-      ),
-      record { u = refl; t = refl; o = λ c. ap (λ l. Some (c, l)) (sym same) },
-    )
+    grind (arith, filter_without, not-true, all_without)
 
 -- whole texts
 
@@ -188,14 +208,7 @@ Steps r es fs = AllZip (λ e f. (e.0 ≡ f.0) × ExtensionStep r e.1 f.1) es fs
 rules_step : (T : LanguageLengths) (r : TreeRule) (es fs : List (ℕ × Extension)) → Steps r es fs →
     AllByRecursion (λ e. IsExtension T (lower_singleton e) e.1) es →
     AllByRecursion (λ e. IsExtension T (lower_singleton e) e.1) fs
-rules_step T r = all_zip _ (λ e. IsExtension T (lower_singleton e) e.1)
-    (λ e. IsExtension T (lower_singleton e) e.1) (λ e f z h. subst
-    (λ (c : ℕ). IsExtension T (to_ascii_lowercase c) f.1) z.0 (extension_step T (lower_singleton e) z.1 h).0)
-
-singletons_step : (r : TreeRule) (es fs : List (ℕ × Extension)) → Steps r es fs →
-    map (λ (e : ℕ × Extension). lower_singleton e) es ≡ map (λ f. lower_singleton f) fs
-singletons_step r = map-zip _ (λ (e : ℕ × Extension). lower_singleton e) (λ f. lower_singleton f)
-    (λ e f z i. to_ascii_lowercase (z.0 i))
+rules_step T r = grind (arith, all_zip, extension_step)
 
 -- a part that is looked up
 part_step : {A : Type 0} (T : LanguageLengths) (part : Option Extension → A) →
@@ -232,8 +245,7 @@ find_blocks : {es fs : List (ℕ × Extension)} → Reordered es fs →
     AllDifferent nat_cmp (map (λ e. lower_singleton e) es) → (q : ℕ) →
     find nat_cmp q (by_singleton es) ≡ find nat_cmp q (by_singleton fs)
 find_blocks {es = es} r d q = find_reordered nat_cmp nat_cmp_total q
-    (map_reordered (λ (e : ℕ × Extension). (lower_singleton e, e.1)) r) (subst (AllDifferent nat_cmp)
-    (sym (map-map (λ (e : ℕ × Extension). e.0) (λ e. (lower_singleton e, e.1)) es)) d)
+    (map_reordered (λ (e : ℕ × Extension). (lower_singleton e, e.1)) r) (search map-map)
 
 filter_map_reordered : {X Y : Type 0} (h : X → Option Y) {xs ys : List X} → Reordered xs ys →
     Reordered (filter_map h xs) (filter_map h ys)
@@ -276,13 +288,8 @@ none_among_others c (e ∷ es) h =
 different_others : (es : List (ℕ × Extension)) → AllDifferent nat_cmp (map (λ (e : ℕ × Extension). e.0) es) →
     AllDifferent nat_cmp (map (λ (o : Block). o.0) (filter_map other_part es))
 different_others [] d = tt
-different_others (e ∷ es) d = at_kind e.1 (different_others es d.1)
-  where
-    at_kind : (x : Extension) →
-        AllDifferent nat_cmp (map (λ (o : Block). o.0) (filter_map other_part es)) →
-        AllDifferent nat_cmp (map (λ (o : Block). o.0) (filter_map other_part ((e.0, x) ∷ es)))
-    at_kind (other ps) rest = (both_ways _ (none_among_others e.0 es (false_from_ne_true _ d.0)), rest)
-    at_kind _ rest = rest
+different_others (e ∷ es) d =
+    grind (arith, both_ways, none_among_others, false_from_ne_true, different_others es d.1)
 
 others_reordered : {es fs : List (ℕ × Extension)} → Reordered es fs →
     AllDifferent nat_cmp (map (λ e. lower_singleton e) es) →
@@ -291,9 +298,8 @@ others_reordered : {es fs : List (ℕ × Extension)} → Reordered es fs →
 others_reordered {es = es} {fs = fs} r d = map_of_same nat_cmp nat_cmp_total nat_cmp-IsAntisymmetric
     (filter_map other_part (by_singleton es)) (filter_map other_part (by_singleton fs))
     (λ q. find_reordered nat_cmp nat_cmp_total q
-    (filter_map_reordered other_part (map_reordered (λ (e : ℕ × Extension). (lower_singleton e, e.1)) r))
-    (different_others (by_singleton es) (subst (AllDifferent nat_cmp)
-    (sym (map-map (λ (e : ℕ × Extension). e.0) (λ e. (lower_singleton e, e.1)) es)) d)))
+    (search (filter_map_reordered, map_reordered))
+    (search (different_others, map-map)))
 
 -- written locales of which each part means the same
 pub same_parts : (v w : Written) → normal_identifier v.id ≡ normal_identifier w.id →
@@ -305,8 +311,7 @@ pub same_parts : (v w : Written) → normal_identifier v.id ≡ normal_identifie
     map_of nat_cmp (filter_map other_part (by_singleton v.extensions))
     ≡ map_of nat_cmp (filter_map other_part (by_singleton w.extensions)) →
     meaning v ≡ meaning w
-same_parts v w i u t x o = λ k.
-    record { id = i k; extensions = record { unicode = u k; transform = t k; private = x k; others = o k } }
+same_parts v w i u t x o = cc
 
 -- a step keeps the rules and the meaning
 pub written_step : (T : LanguageLengths) {v w : Written} → Step v w → IsWritten T v →
@@ -330,7 +335,7 @@ written_step T (Step.inside r {i = i} {j = j} {es = es} {fs = fs} {x = x} s z) h
       record {
         id = p.0;
         extensions = rules_step T r es fs z h.extensions;
-        different = subst (AllDifferent nat_cmp) (singletons_step r es fs z) h.different;
+        different = subst (AllDifferent nat_cmp) (grind (arith, map-zip)) h.different;
         private = h.private;
       },
       same_parts (record { id = j; extensions = fs; private = x })

@@ -1,17 +1,40 @@
 -- A step lengthens no text, and makes no hyphen.
 use Rattle.std.proofs.Common.{◌≡◌, ℕ, false, ◌+◌, ◌<◌, ◌≤◌, Bool, cond, ◌==◌, List, [], ◌∷◌, length, map}
-use Rattle.std.proofs.Common.{flat_map, refl, sym, ap, ◌∙◌, arith, option_to_list, le_refl, length-append}
+use Rattle.std.proofs.Common.{flat_map, refl, arith, option_to_list, le_refl, length-append}
 use Rattle.std.specs.List.{AllByRecursion, list_any}
 use Rattle.std.proofs.lemmas.List.Concat.{flat_map-append}
-use Rattle.iloc_spec_grammar.specs.Syntax.{LanguageLengths, Field, Text, pieces, join, lower, is_true}
-use Rattle.iloc_spec_grammar.specs.Syntax.{SpelledIdentifier, Fields}
-use Rattle.iloc_spec_grammar.specs.Syntax.{identifier_pieces, fields_pieces}
-use Rattle.iloc_spec_grammar.specs.Tree.{Extension, Written, extension_pieces, extension_block, block_pieces}
-use Rattle.iloc_spec_grammar.specs.Tree.{blocks_of, spelling, IsWritten, TreeMeans, meaning}
+use Rattle.iloc_spec_grammar.specs.Syntax.{
+  LanguageLengths,
+  Field,
+  Text,
+  pieces,
+  join,
+  SpelledIdentifier,
+  Fields,
+  identifier_pieces,
+  fields_pieces,
+}
+use Rattle.iloc_spec_grammar.specs.Tree.{
+  Extension,
+  Written,
+  extension_pieces,
+  extension_block,
+  block_pieces,
+  spelling,
+  IsWritten,
+  TreeMeans,
+  meaning,
+}
 use Rattle.iloc_spec_grammar.specs.TreeSteps.{TreeLessTrue, TreeRule, TreeIdentifierStep, ExtensionStep, Step}
 use Rattle.iloc_spec_grammar.proofs.PiecesLaws.{pieces-join, pieces_hyphen_free, join-pieces}
-use Rattle.iloc_spec_grammar.proofs.Orders.{total, total-append, total_reordered, total_without}
-use Rattle.iloc_spec_grammar.proofs.Orders.{total_repeats, total_zip}
+use Rattle.iloc_spec_grammar.proofs.Orders.{
+  total,
+  total-append,
+  total_reordered,
+  total_without,
+  total_repeats,
+  total_zip,
+}
 use Rattle.iloc_spec_grammar.proofs.StepLaws.{written_step}
 use Rattle.std.proofs.lemmas.Bool.{false_from_ne_true}
 
@@ -21,8 +44,7 @@ module _ (f : Text → ℕ) where
 
   fields_size : (fs : Fields) → total f (fields_pieces fs) ≡ total field_size fs
   fields_size [] = refl
-  fields_size (k ∷ fs) =
-      let a = total-append f (k.0 ∷ k.1) (fields_pieces fs) in let b = fields_size fs in omega arith
+  fields_size (k ∷ fs) = rw (total-append, fields_size fs)
 
   pub identifier_size : {r : TreeRule} {i j : SpelledIdentifier} → TreeIdentifierStep r i j →
       total f (identifier_pieces j) ≡ total f (identifier_pieces i)
@@ -31,8 +53,7 @@ module _ (f : Text → ℕ) where
       let e = total_reordered f p in omega (arith, total-append f)
 
   less_size : (j k : Field) → TreeLessTrue j k → field_size k ≤ field_size j
-  less_size j k z =
-      let a = total_without f (λ p. is_true (lower p)) z.1 in let b : f j.0 ≡ f k.0 = ap f z.0 in omega arith
+  less_size j k z = grind (arith, total_without)
 
   extension_size : {r : TreeRule} {e g : Extension} → ExtensionStep r e g →
       total f (extension_pieces g) ≤ total f (extension_pieces e)
@@ -65,27 +86,17 @@ module _ (f : Text → ℕ) where
   blocks_size : (es : List (ℕ × Extension)) →
       total f (flat_map block_pieces (map extension_block es)) ≡ total block_size es
   blocks_size [] = refl
-  blocks_size (e ∷ es) = let a =
-      total-append f (block_pieces (extension_block e)) (flat_map block_pieces (map extension_block es)) in
-      let b = blocks_size es in omega arith
+  blocks_size (e ∷ es) = rw (total-append, blocks_size es)
 
   spelling_size : (w : Written) →
       total f (spelling w)
       ≡ total f (identifier_pieces w.id)
       + (total block_size w.extensions + total f (flat_map block_pieces (option_to_list w.private)))
-  spelling_size w =
-      let a = total-append f (identifier_pieces w.id) (flat_map block_pieces (blocks_of w)) in
-      let b : total f (flat_map block_pieces (blocks_of w))
-      ≡ total f (flat_map block_pieces (map extension_block w.extensions))
-      + total f (flat_map block_pieces (option_to_list w.private)) = ap (total f)
-      (flat_map-append block_pieces (map extension_block w.extensions) (option_to_list w.private))
-      ∙ total-append f _ _ in
-      let c = blocks_size w.extensions in omega arith
+  spelling_size w = grind (arith, total-append, total, flat_map-append, blocks_size)
 
   block_step_size : (r : TreeRule) (e g : ℕ × Extension) → (e.0 ≡ g.0) × ExtensionStep r e.1 g.1 →
       block_size g ≤ block_size e
-  block_step_size r e g z = let a = extension_size z.1 in
-      let b : f (e.0 ∷ []) ≡ f (g.0 ∷ []) = ap (λ c. f (c ∷ [])) z.0 in omega arith
+  block_step_size r e g z = grind (arith, extension_size)
 
   pub step_size : {v w : Written} → Step v w → total f (spelling w) ≤ total f (spelling v)
   step_size {v = v} {w = w} (Step.block_order {i = i} {es = es} {fs = fs} {x = x} r) =
@@ -95,10 +106,7 @@ module _ (f : Text → ℕ) where
   step_size (Step.inside r {i = i} {j = j} {es = es} {fs = fs} {x = x} s z) =
       let a = spelling_size (record { id = i; extensions = es; private = x }) in
       let b = spelling_size (record { id = j; extensions = fs; private = x }) in
-      let c = identifier_size s in
-      let d =
-      total_zip block_size (λ e g. (e.0 ≡ g.0) × ExtensionStep r e.1 g.1) (block_step_size r) es fs z in
-      omega arith
+      grind (arith, identifier_size, total_zip, block_step_size)
 
 -- the length of a text is that of its pieces
 
@@ -108,8 +116,7 @@ piece_length p = length p + 1
 pub length-join : (p : Text) (ps : List Text) → length (join (p ∷ ps)) + 1 ≡ total piece_length (p ∷ ps)
 unfolding join
 length-join p [] = omega arith
-length-join p (q ∷ ps) =
-    let a = length-join q ps in let b = length-append p (45 ∷ join (q ∷ ps)) in omega arith
+length-join p (q ∷ ps) = grind (arith, length-append, length-join q ps)
 
 -- how many pieces pass a test
 
@@ -119,16 +126,12 @@ counted test p = cond (test p) 1 0
 none_counted : (test : Text → Bool) (ps : List Text) → AllByRecursion (λ p. test p ≡ false) ps →
     total (counted test) ps ≡ 0
 none_counted test [] h = refl
-none_counted test (p ∷ ps) h =
-    let a : counted test p ≡ 0 = ap (λ b. cond b 1 0) h.0 in let b = none_counted test ps h.1 in omega arith
+none_counted test (p ∷ ps) h = search (none_counted test ps h.1)
 
 all_uncounted : (test : Text → Bool) (ps : List Text) → total (counted test) ps ≡ 0 →
     AllByRecursion (λ p. test p ≡ false) ps
 all_uncounted test [] h = tt
-all_uncounted test (p ∷ ps) h = (
-  false_from_ne_true _ (λ e. let a : counted test p ≡ 1 = ap (λ b. cond b 1 0) e in absurd (omega arith)),
-  all_uncounted test ps (omega arith),
-)
+all_uncounted test (p ∷ ps) h = grind (arith, false_from_ne_true, all_uncounted test ps (omega arith))
 
 -- a step makes no piece that passes a test
 pub extension_passes : (test : Text → Bool) {r : TreeRule} {e g : Extension} → ExtensionStep r e g →
@@ -144,7 +147,7 @@ pub step_pieces : (t : Text) {v w : Written} → pieces t ≡ spelling v → Ste
     pieces (join (spelling w)) ≡ spelling w
 step_pieces t {v = v} {w = w} e s =
     let a : total (counted has_hyphen) (spelling v) ≡ 0 =
-    ap (total (counted has_hyphen)) (sym e) ∙ none_counted has_hyphen (pieces t) (pieces_hyphen_free t) in
+    grind (arith, total, none_counted, pieces_hyphen_free) in
     let b = step_size (counted has_hyphen) s in
     pieces-join w.id.language _ (all_uncounted has_hyphen (spelling w) (omega arith))
 
@@ -154,11 +157,10 @@ step_length t {v = v} {w = w} e s =
     let a = step_size piece_length s in
     let b : length (join (spelling w)) + 1 ≡ total piece_length (spelling w) = length-join w.id.language _ in
     let c : length (join (spelling v)) + 1 ≡ total piece_length (spelling v) = length-join v.id.language _ in
-    let d : length t ≡ length (join (spelling v)) = ap length (sym (join-pieces t) ∙ ap join e) in
-    omega arith
+    grind (arith, join-pieces)
 
 -- the text after a step means the same
 pub step_means : (T : LanguageLengths) (t : Text) {v w : Written} → IsWritten T v → pieces t ≡ spelling v →
     Step v w → TreeMeans T (join (spelling w)) (meaning v)
 step_means T t {w = w} h e s = let p = written_step T s h in
-    record { written = w; grammatical = p.0; spelled = step_pieces t e s; means = sym p.1 }
+    grind (arith, step_pieces)

@@ -3,8 +3,16 @@ use Rattle.std.proofs.Common.{◌≡◌, inl, inr, true, Result, Ok, Err, refl, 
 use Rattle.std.proofs.Common.{ap₂, ◌∙◌, subst, true≢false}
 use Rattle.std.specs.Result.{is_ok}
 use Rattle.std.proofs.lemmas.Bool.{and_parts, and_from, or_cases, or_left, or_right}
-use Rattle.iloc_spec_grammar.specs.Syntax.{LanguageLengths, Text, pieces, join, AreLengths, lower}
-use Rattle.iloc_spec_grammar.specs.Syntax.{IsIdentifier, identifier_pieces}
+use Rattle.iloc_spec_grammar.specs.Syntax.{
+  LanguageLengths,
+  Text,
+  pieces,
+  join,
+  AreLengths,
+  lower,
+  IsIdentifier,
+  identifier_pieces,
+}
 use Rattle.iloc_spec_grammar.specs.Tree.{IsWritten, spelling, meaning}
 use Rattle.iloc_spec_grammar.specs.Meaning.{normal_identifier, Fault}
 use Rattle.iloc_spec_grammar.specs.Values.{TextStep, IdentifierTextStep}
@@ -20,10 +28,18 @@ use Rattle.iloc_spec_grammar.proofs.ComputingLaws.{computed_tree, computed_ident
 use Rattle.iloc_spec_grammar.proofs.CaseLaws.{spelling-written_of}
 use Rattle.iloc_spec_grammar.proofs.StepLaws.{identifier_step, written_step}
 use Rattle.iloc_spec_grammar.proofs.StepSizes.{step_pieces}
-use Rattle.iloc_spec_grammar.proofs.SameSteps.{tree_step, step_by_tree, tree_identifier_step}
-use Rattle.iloc_spec_grammar.proofs.SameSteps.{identifier_step_by_tree}
-use Rattle.iloc_spec_grammar.specs.StepTests.{is_identifier_step, is_step, is_text_step}
-use Rattle.iloc_spec_grammar.specs.StepTests.{is_identifier_text_step}
+use Rattle.iloc_spec_grammar.proofs.SameSteps.{
+  tree_step,
+  step_by_tree,
+  tree_identifier_step,
+  identifier_step_by_tree,
+}
+use Rattle.iloc_spec_grammar.specs.StepTests.{
+  is_identifier_step,
+  is_step,
+  is_text_step,
+  is_identifier_text_step,
+}
 use Rattle.iloc_spec_grammar.proofs.Equality.{word_equality}
 use Rattle.iloc_spec_grammar.proofs.PartTests.{tests_identifier_step, tests_step}
 
@@ -75,10 +91,7 @@ text_passes T table {t = t} (TreeTextStep.rewritten {v = v} {w = w} g p s) =
 
 pub tests_text_step : (T : LanguageLengths) → AreLengths T → (t u : Text) →
     Tests (is_text_step T t u) (TextStep T t u)
-tests_text_step T table t u = record {
-  holds = λ e. step_by_tree table t u (text_holds T table t u e);
-  passes = λ s. text_passes T table (tree_step t u s);
-}
+tests_text_step T table t u = search (step_by_tree, text_holds, text_passes, tree_step)
 
 -- texts of identifiers
 
@@ -126,7 +139,5 @@ identifier_text_passes T {t = t} (TreeIdentifierTextStep.variant_order {i = i} {
 
 pub tests_identifier_text_step : (T : LanguageLengths) (t u : Text) →
     Tests (is_identifier_text_step T t u) (IdentifierTextStep T t u)
-tests_identifier_text_step T t u = record {
-  holds = λ e. identifier_step_by_tree t u (identifier_text_holds T t u e);
-  passes = λ s. identifier_text_passes T (tree_identifier_step t u s);
-}
+tests_identifier_text_step T t u =
+    search (identifier_step_by_tree, identifier_text_holds, identifier_text_passes, tree_identifier_step)

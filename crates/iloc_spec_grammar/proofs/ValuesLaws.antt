@@ -1,7 +1,31 @@
 -- A value is its own normal form, and its printed form means it.
-use Rattle.std.proofs.Common.{◌≡◌, ◌≢◌, ℕ, ◌+◌, ◌<◌, Bool, true, false, not, List, [], ◌∷◌, length, map}
-use Rattle.std.proofs.Common.{filter, refl, sym, ap, ap₂, ◌∙◌, subst, arith, Option, Some, None, IfSome}
-use Rattle.std.proofs.Common.{option_map}
+use Rattle.std.proofs.Common.{
+  ◌≡◌,
+  ◌≢◌,
+  ℕ,
+  ◌+◌,
+  ◌<◌,
+  Bool,
+  true,
+  false,
+  List,
+  [],
+  ◌∷◌,
+  length,
+  map,
+  filter,
+  refl,
+  sym,
+  ap,
+  ap₂,
+  ◌∙◌,
+  arith,
+  Option,
+  Some,
+  None,
+  IfSome,
+  option_map,
+}
 use Rattle.std.specs.List.{AllByRecursion}
 use Rattle.std.specs.Ordering.{is_lt}
 use Rattle.std.specs.declared.cmp.Ordering.TheVariants.{Less}
@@ -9,23 +33,66 @@ use Rattle.std.specs.FinMap.{is_sorted}
 use Rattle.std.specs.FinMap.Entries.{below_all}
 use Rattle.std.proofs.lemmas.Bool.{and_parts, and_from}
 use Rattle.std.proofs.lemmas.Bool.Decides.{nat_tests}
-use Rattle.iloc_spec_grammar.specs.Syntax.{LanguageLengths, Field, Text, Kind, Language, Script, Region}
-use Rattle.iloc_spec_grammar.specs.Syntax.{Variant, Subtag, UnicodeKey}
-use Rattle.iloc_spec_grammar.specs.Syntax.{TransformKey, Attribute, is_word, IsWord, normal, lower, upper}
-use Rattle.iloc_spec_grammar.specs.Syntax.{title, word_cmp, is_true, Stage, IdentifierOf, SpelledIdentifier}
-use Rattle.iloc_spec_grammar.specs.Syntax.{Identifier, Unicode, Transform, Fields, identifier_pieces}
-use Rattle.iloc_spec_grammar.specs.Syntax.{HasWords, IsIdentifier, IsKeyword, IsField, AllDifferent}
-use Rattle.iloc_spec_grammar.specs.Tree.{IsUnicodeBlock, IsTransformBlock, spelled_identifier}
-use Rattle.iloc_spec_grammar.specs.Tree.{spelled_unicode, spelled_transform}
-use Rattle.iloc_spec_grammar.specs.Meaning.{map_of, set_of, normal_identifier, normal_unicode}
-use Rattle.iloc_spec_grammar.specs.Meaning.{normal_transform, normal_fields, normal_values, IdentifierMeans}
-use Rattle.iloc_spec_grammar.specs.Values.{IsNormal, StrictlyAscends, IsIdentifierValue, IsUnicodeValue}
-use Rattle.iloc_spec_grammar.specs.Values.{IsTransformValue, lower_identifier, spelled_value, spelled_fields}
+use Rattle.iloc_spec_grammar.specs.Syntax.{
+  LanguageLengths,
+  Field,
+  Text,
+  Kind,
+  Subtag,
+  UnicodeKey,
+  TransformKey,
+  Attribute,
+  is_word,
+  IsWord,
+  normal,
+  lower,
+  word_cmp,
+  is_true,
+  Stage,
+  IdentifierOf,
+  SpelledIdentifier,
+  Identifier,
+  Unicode,
+  Transform,
+  Fields,
+  identifier_pieces,
+  HasWords,
+  IsIdentifier,
+  IsKeyword,
+  IsField,
+  AllDifferent,
+}
+use Rattle.iloc_spec_grammar.specs.Tree.{
+  IsUnicodeBlock,
+  IsTransformBlock,
+  spelled_identifier,
+  spelled_unicode,
+  spelled_transform,
+}
+use Rattle.iloc_spec_grammar.specs.Meaning.{
+  map_of,
+  set_of,
+  normal_identifier,
+  normal_unicode,
+  normal_transform,
+  normal_fields,
+  normal_values,
+  IdentifierMeans,
+}
+use Rattle.iloc_spec_grammar.specs.Values.{
+  IsNormal,
+  StrictlyAscends,
+  IsIdentifierValue,
+  IsUnicodeValue,
+  IsTransformValue,
+  lower_identifier,
+  spelled_value,
+  spelled_fields,
+}
 use Rattle.iloc_spec_grammar.proofs.WordsLaws.{lower-lower, title-lower, upper-lower, is_word-lower}
 use Rattle.iloc_spec_grammar.proofs.MapLaws.{map_of_sorted, sorted_different, less}
 use Rattle.iloc_spec_grammar.proofs.General.{all_mapped, some_mapped, map-then, option_map-then}
 use Rattle.std.proofs.lemmas.List.{length-map}
-use Rattle.std.proofs.lemmas.Option.{IfSome_then}
 
 pub all_weaker : {X : Type 0} (P Q : X → Type 0) → ((x : X) → P x → Q x) → (xs : List X) →
     AllByRecursion P xs → AllByRecursion Q xs
@@ -39,7 +106,7 @@ map_fixed f (x ∷ xs) h = ap₂ ◌∷◌ h.0 (map_fixed f xs h.1)
 pub filter_all : {X : Type 0} (test : X → Bool) (xs : List X) → AllByRecursion (λ x. test x ≡ true) xs →
     filter test xs ≡ xs
 filter_all test [] h = refl
-filter_all test (x ∷ xs) h = rw h.0 (ap (λ ys. x ∷ ys) (filter_all test xs h.1))
+filter_all test (x ∷ xs) h = search (filter_all test xs h.1)
 
 pub unmarked : (ws : List Text) → map (λ (e : Text × Text). e.0) (map (λ w. (w, w)) ws) ≡ ws
 unmarked [] = refl
@@ -70,12 +137,10 @@ ascend_as_keys (w ∷ ws) h =
 
 -- words in order are their own set, and differ
 pub set_of_ascending : (ws : List Text) → StrictlyAscends word_cmp ws → set_of ws ≡ ws
-set_of_ascending ws h =
-    ap (map (λ (e : Text × Text). e.0)) (map_of_sorted word_cmp _ (keys_ascend ws h)) ∙ unmarked ws
+set_of_ascending ws h = simp (map_of_sorted, keys_ascend, unmarked)
 
 pub ascending_different : (ws : List Text) → StrictlyAscends word_cmp ws → AllDifferent word_cmp ws
-ascending_different ws h =
-    subst (AllDifferent word_cmp) (unmarked ws) (sorted_different word_cmp _ (keys_ascend ws h))
+ascending_different ws h = grind (arith, unmarked, sorted_different, keys_ascend)
 
 -- identifiers
 
@@ -84,37 +149,24 @@ optional_fixed k None h = refl
 optional_fixed k (Some w) h = ap Some h.1
 
 pub value_words : {T : ℕ → Bool} {i : Identifier} → IsIdentifierValue T i → HasWords T (spelled_identifier i)
-value_words {i = i} h = record {
-  language = h.language.0;
-  script = IfSome_then i.script {P = IsNormal Script} h.script (λ w n. n.0);
-  region = IfSome_then i.region {P = IsNormal Region} h.region (λ w n. n.0);
-  variants = all_weaker (IsNormal Variant) (IsWord Variant) (λ w n. n.0) i.variants h.variants;
-}
+value_words {i = i} h = grind (arith, all_weaker)
 
 value_variants : {T : ℕ → Bool} (i : Identifier) → IsIdentifierValue T i → map lower i.variants ≡ i.variants
-value_variants i h = map_fixed lower i.variants
-    (all_weaker (IsNormal Variant) (λ w. lower w ≡ w) (λ w n. n.1) i.variants h.variants)
+value_variants i h = grind (arith, map_fixed, all_weaker)
 
 pub value_identifier : {T : ℕ → Bool} (i : Identifier) → IsIdentifierValue T i →
     IsIdentifier T (spelled_identifier i)
-value_identifier i h = record {
-  words = value_words h;
-  different =
-      subst (AllDifferent word_cmp) (sym (value_variants i h)) (ascending_different i.variants h.ascending);
-}
+value_identifier i h = grind (arith, value_words, value_variants, ascending_different)
 
 pub same_identifier : {s : Stage} (a b : Text) (c d r q : Option Text) (vs ws : List Text) → a ≡ b →
     c ≡ d → r ≡ q → vs ≡ ws →
     ◌≡◌ {A = IdentifierOf s} (record { language = a; script = c; region = r; variants = vs })
     (record { language = b; script = d; region = q; variants = ws })
-same_identifier a b c d r q vs ws e f g h =
-    λ i. record { language = e i; script = f i; region = g i; variants = h i }
+same_identifier a b c d r q vs ws e f g h = cc
 
 pub normal_value : {T : ℕ → Bool} (i : Identifier) → IsIdentifierValue T i →
     normal_identifier (spelled_identifier i) ≡ i
-normal_value i h = same_identifier _ _ _ _ _ _ _ _ h.language.1 (optional_fixed Script i.script h.script)
-    (optional_fixed Region i.region h.region)
-    (ap set_of (value_variants i h) ∙ set_of_ascending i.variants h.ascending)
+normal_value i h = grind (arith, same_identifier, optional_fixed, value_variants, set_of_ascending)
 
 -- what is printed of an identifier means it
 pub identifier_reads_back : {T : ℕ → Bool} (i : Identifier) → IsIdentifierValue T i →
@@ -131,29 +183,17 @@ identifier_reads_back i h = record {
 word_lower : (k : Kind) (w : Text) → IsWord k w → IsWord k (lower w)
 word_lower k w h = is_word-lower k w ∙ h
 
-lower_words : {T : ℕ → Bool} (i : SpelledIdentifier) → HasWords T i → HasWords T (lower_identifier i)
-lower_words {T = T} i h = record {
-  language = word_lower (Language T) i.language h.language;
-  script = some_mapped (IsWord Script) (IsWord Script) lower (word_lower Script) i.script h.script;
-  region = some_mapped (IsWord Region) (IsWord Region) lower (word_lower Region) i.region h.region;
-  variants = all_mapped (IsWord Variant) (IsWord Variant) lower (word_lower Variant) i.variants h.variants;
-}
-
 pub lower_twice : (ws : List Text) → map lower (map lower ws) ≡ map lower ws
 lower_twice ws = map-then lower lower lower lower-lower ws
 
 pub lower_is_identifier : {T : ℕ → Bool} (i : SpelledIdentifier) → IsIdentifier T i →
     IsIdentifier T (lower_identifier i)
-lower_is_identifier i h = record {
-  words = lower_words i h.words;
-  different = subst (AllDifferent word_cmp) (sym (lower_twice i.variants)) h.different;
-}
+lower_is_identifier i h = search (lower_twice, word_lower, some_mapped, all_mapped)
 
 pub normal-lower_identifier : (i : SpelledIdentifier) →
     normal_identifier (lower_identifier i) ≡ normal_identifier i
-normal-lower_identifier i = same_identifier _ _ _ _ _ _ _ _ (lower-lower i.language)
-    (option_map-then title lower title title-lower i.script)
-    (option_map-then upper lower upper upper-lower i.region) (ap set_of (lower_twice i.variants))
+normal-lower_identifier i =
+    search (same_identifier, lower-lower, option_map-then, title-lower, upper-lower, lower_twice)
 
 -- the unicode part
 
@@ -168,38 +208,15 @@ all_both P Q (x ∷ xs) h k = ((h.0, k.0), all_both P Q xs h.1 k.1)
 
 pub values_fixed : (ws : List Text) → AllByRecursion (λ w. lower w ≡ w) ws →
     AllByRecursion (λ w. is_true w ≡ false) ws → normal_values ws ≡ ws
-values_fixed ws h n = ap (filter (λ w. not (is_true w))) (map_fixed lower ws h)
-    ∙ (filter_all (λ w. not (is_true w)) ws
-    (all_weaker (λ w. is_true w ≡ false) (λ w. not (is_true w) ≡ true) (λ w e. ap not e) ws n))
+values_fixed ws h n = grind (arith, map_fixed, filter_all, all_weaker)
 
 fields_fixed : (fs : Fields) → is_sorted word_cmp fs ≡ true →
     AllByRecursion (λ f. (lower f.0 ≡ f.0) × (normal_values f.1 ≡ f.1)) fs → normal_fields fs ≡ fs
-fields_fixed fs sorted h = ap (map_of word_cmp) (map_fixed (λ f. (lower f.0, normal_values f.1)) fs
-    (all_weaker (λ f. (lower f.0 ≡ f.0) × (normal_values f.1 ≡ f.1)) (λ f. (lower f.0, normal_values f.1) ≡ f)
-    (λ f e i. (e.0 i, e.1 i)) fs h))
-    ∙ map_of_sorted word_cmp fs sorted
+fields_fixed fs sorted h = grind (arith, map_fixed, all_weaker, map_of_sorted)
 
 -- no keyword holds `true` or a subtag of two characters
 abbrev pub AreKeywordValues : Fields → Type 0
 AreKeywordValues ks = AllByRecursion (λ f. AllByRecursion (λ w. (is_true w ≡ false) × (length w ≢ 2)) f.1) ks
-
-keyword_rule : (f : Field) → IsNormal UnicodeKey f.0 × AllByRecursion (IsNormal Subtag) f.1 →
-    AllByRecursion (λ w. (is_true w ≡ false) × (length w ≢ 2)) f.1 → IsKeyword f
-keyword_rule f h v = (
-  h.0.0,
-  all_weaker (λ w. IsNormal Subtag w × ((is_true w ≡ false) × (length w ≢ 2))) (IsWord Attribute)
-      (λ w n. attribute_from w n.0.0 n.1.1) f.1 (all_both _ _ f.1 h.1 v),
-)
-
-keyword_fixed : (f : Field) →
-    IsNormal UnicodeKey f.0 × AllByRecursion (IsNormal Subtag) f.1 →
-    AllByRecursion (λ w. (is_true w ≡ false) × (length w ≢ 2)) f.1 →
-    (lower f.0 ≡ f.0) × (normal_values f.1 ≡ f.1)
-keyword_fixed f h v = (
-  h.0.1,
-  values_fixed f.1 (all_weaker (IsNormal Subtag) (λ w. lower w ≡ w) (λ w n. n.1) f.1 h.1)
-      (all_weaker (λ w. (is_true w ≡ false) × (length w ≢ 2)) (λ w. is_true w ≡ false) (λ w n. n.0) f.1 v),
-)
 
 pub value_unicode : (u : Unicode) → IsUnicodeValue u → AreKeywordValues u.keywords →
     0 < length u.attributes + length u.keywords → IsUnicodeBlock (spelled_unicode u)
@@ -207,7 +224,11 @@ value_unicode u h v n = record {
   attributes = all_weaker (IsNormal Attribute) (IsWord Attribute) (λ w n. n.0) u.attributes h.attributes;
   keywords = all_weaker (λ f. (IsNormal UnicodeKey f.0 × AllByRecursion (IsNormal Subtag) f.1)
       × AllByRecursion (λ w. (is_true w ≡ false) × (length w ≢ 2)) f.1) IsKeyword
-      (λ f b. keyword_rule f b.0 b.1) u.keywords (all_both _ _ u.keywords h.keywords v);
+      (λ f b. ((
+        b.0.0.0,
+        all_weaker (λ w. IsNormal Subtag w × ((is_true w ≡ false) × (length w ≢ 2)))
+            (IsWord Attribute) (λ w n. attribute_from w n.0.0 n.1.1) f.1 (all_both _ _ f.1 b.0.1 b.1),
+      ))) u.keywords (all_both _ _ u.keywords h.keywords v);
   nonempty = n;
 }
 
@@ -220,7 +241,8 @@ normal_value_unicode u h v =
     let keywords : normal_fields u.keywords ≡ u.keywords = fields_fixed u.keywords h.keys_ascend
     (all_weaker (λ f. (IsNormal UnicodeKey f.0 × AllByRecursion (IsNormal Subtag) f.1)
     × AllByRecursion (λ w. (is_true w ≡ false) × (length w ≢ 2)) f.1)
-    (λ f. (lower f.0 ≡ f.0) × (normal_values f.1 ≡ f.1)) (λ f b. keyword_fixed f b.0 b.1) u.keywords
+    (λ f. (lower f.0 ≡ f.0) × (normal_values f.1 ≡ f.1))
+    (λ f b. (grind (arith, values_fixed, all_weaker))) u.keywords
     (all_both _ _ u.keywords h.keywords v)) in
     λ i. record { attributes = attributes i; keywords = keywords i }
 
@@ -235,20 +257,14 @@ pub spelled_rule : (ws : List Text) →
     AllByRecursion (IsWord Attribute) (spelled_value ws) × (0 < length (spelled_value ws))
 unfolding is_word
 spelled_rule [] h = ((refl, tt), omega arith)
-spelled_rule (w ∷ ws) h = (
-  all_weaker (λ w. IsNormal Attribute w × (is_true w ≡ false)) (IsWord Attribute) (λ w n. n.0.0) (w ∷ ws) h,
-  omega arith,
-)
+spelled_rule (w ∷ ws) h = grind (arith, all_weaker)
 
 pub spelled_means : (ws : List Text) →
     AllByRecursion (λ w. IsNormal Attribute w × (is_true w ≡ false)) ws →
     normal_values (spelled_value ws) ≡ ws
 unfolding lower is_true
 spelled_means [] h = refl
-spelled_means (w ∷ ws) h = values_fixed (w ∷ ws)
-    (all_weaker (λ w. IsNormal Attribute w × (is_true w ≡ false)) (λ w. lower w ≡ w) (λ w n. n.0.1) (w ∷ ws)
-    h) (all_weaker (λ w. IsNormal Attribute w × (is_true w ≡ false)) (λ w. is_true w ≡ false) (λ w n. n.1)
-    (w ∷ ws) h)
+spelled_means (w ∷ ws) h = grind (arith, values_fixed, all_weaker)
 
 fields_rule : (fs : Fields) → AllByRecursion IsTransformEntry fs → AllByRecursion IsField (spelled_fields fs)
 fields_rule = all_mapped IsTransformEntry IsField (λ f. (f.0, spelled_value f.1))
@@ -257,7 +273,7 @@ fields_rule = all_mapped IsTransformEntry IsField (λ f. (f.0, spelled_value f.1
 fields_mean : (fs : Fields) → AllByRecursion IsTransformEntry fs →
     map (λ (f : Field). (lower f.0, normal_values f.1)) (spelled_fields fs) ≡ fs
 fields_mean [] h = refl
-fields_mean (f ∷ fs) h = λ i. (h.0.0.1 i, spelled_means f.1 h.0.1 i) ∷ fields_mean fs h.1 i
+fields_mean (f ∷ fs) h = grind (arith, spelled_means, fields_mean fs h.1)
 
 optional_means : (T : LanguageLengths) (o : Option Identifier) → IfSome o (IsIdentifierValue T) →
     option_map normal_identifier (option_map lower_identifier o) ≡ o

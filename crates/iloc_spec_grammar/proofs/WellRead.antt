@@ -1,7 +1,28 @@
 -- What a text means is a well-formed value.
-use Rattle.std.proofs.Common.{◌≡◌, ◌≢◌, ℕ, ◌<◌, Bool, true, false, not, List, [], ◌∷◌, length, map}
-use Rattle.std.proofs.Common.{filter_map, refl, sym, ◌∙◌, subst, arith, Option, Some, None, IfSome}
-use Rattle.std.proofs.Common.{option_map}
+use Rattle.std.proofs.Common.{
+  ◌≡◌,
+  ◌≢◌,
+  ℕ,
+  ◌<◌,
+  Bool,
+  true,
+  false,
+  not,
+  List,
+  [],
+  ◌∷◌,
+  length,
+  map,
+  filter_map,
+  refl,
+  subst,
+  arith,
+  Option,
+  Some,
+  None,
+  IfSome,
+  option_map,
+}
 use Rattle.std.specs.List.{AllByRecursion}
 use Rattle.std.specs.Char.{to_ascii_lowercase}
 use Rattle.std.specs.Ordering.{nat_cmp}
@@ -9,20 +30,77 @@ use Rattle.std.specs.Cmp.{nat_cmp_total}
 use Rattle.std.specs.FinMap.{find, nat_cmp-IsAntisymmetric}
 use Rattle.std.proofs.lemmas.Bool.Decides.{nat_tests}
 use Rattle.std.proofs.lemmas.Str.Ascii.{lowercase-lowercase}
-use Rattle.iloc_spec_grammar.specs.Syntax.{LanguageLengths, Field, Block, code_x, code_u, code_t, Text, Kind}
-use Rattle.iloc_spec_grammar.specs.Syntax.{Language, Script, Region, Variant, Subtag, UnicodeKey}
-use Rattle.iloc_spec_grammar.specs.Syntax.{TransformKey, Attribute, PrivateSubtag, is_word, IsWord, normal}
-use Rattle.iloc_spec_grammar.specs.Syntax.{lower, word_cmp, is_true, SpelledIdentifier, SpelledUnicode}
-use Rattle.iloc_spec_grammar.specs.Syntax.{SpelledTransform, Fields, HasWords, IsIdentifier, IsKeyword}
-use Rattle.iloc_spec_grammar.specs.Syntax.{IsOther, kept, is_other_singleton, lower_singleton, IsPrivate}
-use Rattle.iloc_spec_grammar.specs.Tree.{Extension, unicode, transform, other, Written, IsUnicodeBlock}
-use Rattle.iloc_spec_grammar.specs.Tree.{IsTransformBlock, IsExtension, IsWritten, unicode_part}
-use Rattle.iloc_spec_grammar.specs.Tree.{transform_part, private_part, other_part, by_singleton}
-use Rattle.iloc_spec_grammar.specs.Tree.{extensions_meaning, meaning, TreeMeans, IsTreeWellFormed}
-use Rattle.iloc_spec_grammar.specs.Meaning.{map_of, set_of, normal_identifier, normal_values, normal_fields}
-use Rattle.iloc_spec_grammar.specs.Meaning.{normal_unicode, normal_transform, Locale}
-use Rattle.iloc_spec_grammar.specs.Values.{IsNormal, StrictlyAscends, IsIdentifierValue, IsUnicodeValue}
-use Rattle.iloc_spec_grammar.specs.Values.{IsTransformValue, IsValue}
+use Rattle.iloc_spec_grammar.specs.Syntax.{
+  LanguageLengths,
+  Field,
+  Block,
+  code_x,
+  code_u,
+  code_t,
+  Text,
+  Kind,
+  Language,
+  Script,
+  Region,
+  Subtag,
+  UnicodeKey,
+  Attribute,
+  PrivateSubtag,
+  is_word,
+  IsWord,
+  normal,
+  lower,
+  word_cmp,
+  is_true,
+  SpelledIdentifier,
+  SpelledUnicode,
+  SpelledTransform,
+  Fields,
+  HasWords,
+  IsKeyword,
+  IsOther,
+  kept,
+  is_other_singleton,
+  lower_singleton,
+  IsPrivate,
+}
+use Rattle.iloc_spec_grammar.specs.Tree.{
+  Extension,
+  unicode,
+  transform,
+  other,
+  Written,
+  IsUnicodeBlock,
+  IsTransformBlock,
+  IsExtension,
+  IsWritten,
+  unicode_part,
+  transform_part,
+  private_part,
+  other_part,
+  by_singleton,
+  extensions_meaning,
+  meaning,
+  TreeMeans,
+  IsTreeWellFormed,
+}
+use Rattle.iloc_spec_grammar.specs.Meaning.{
+  set_of,
+  normal_identifier,
+  normal_values,
+  normal_fields,
+  normal_unicode,
+  normal_transform,
+  Locale,
+}
+use Rattle.iloc_spec_grammar.specs.Values.{
+  IsNormal,
+  StrictlyAscends,
+  IsIdentifierValue,
+  IsUnicodeValue,
+  IsTransformValue,
+  IsValue,
+}
 use Rattle.iloc_spec_grammar.proofs.WordsLaws.{length-attribute}
 use Rattle.iloc_spec_grammar.proofs.MapLaws.{is_sorted-map_of, all-map_of, word_cmp_total, same_words}
 use Rattle.iloc_spec_grammar.proofs.ValuesLaws.{all_weaker, ascend_as_keys}
@@ -37,13 +115,11 @@ use Rattle.std.proofs.lemmas.Bool.{cond_both, not-true}
 
 pub all-set_of : (P : Text → Type 0) (ws : List Text) → AllByRecursion P ws →
     AllByRecursion P (set_of ws)
-all-set_of P ws h = all_mapped (λ (e : Text × Text). P e.0) P (λ e. e.0) (λ e p. p) _ (all-map_of
-    word_cmp same_words (λ e. P e.0) _ (all_mapped P (λ e. P e.0) (λ w. (w, w)) (λ w p. p) ws h))
+all-set_of P ws h = all_mapped (λ (e : Text × Text). P e.0) P (λ e. e.0) (λ e p. p) _
+    (search (all-map_of, same_words, all_mapped))
 
 pub set_of-ascending : (ws : List Text) → StrictlyAscends word_cmp (set_of ws)
-set_of-ascending ws = let es = map (λ w. (w, w)) ws in
-    ascend_as_keys _
-    (sorted-keys (map_of word_cmp es) ∙ is_sorted-map_of word_cmp word_cmp_total es)
+set_of-ascending ws = search (ascend_as_keys, sorted-keys, is_sorted-map_of, word_cmp_total)
 
 -- parts
 
@@ -62,7 +138,7 @@ identifier_value {T = T} i h = record {
   language = IsNormal-normal (Language T) i.language h.language;
   script = option_normal Script i.script h.script;
   region = option_normal Region i.region h.region;
-  variants = all-set_of (IsNormal Variant) _ (all_normal Variant i.variants (λ p. refl) h.variants);
+  variants = search (all-set_of, all_normal);
   ascending = set_of-ascending (map lower i.variants);
 }
 
@@ -89,47 +165,36 @@ entries_of k e = all_mapped (λ f. IsWord k f.0 × AllByRecursion (IsWord Attrib
 field_entries : (k : Kind) → ((p : Text) → normal k p ≡ lower p) → (fs : Fields) →
     AllByRecursion (λ f. IsWord k f.0 × AllByRecursion (IsWord Attribute) f.1) fs →
     AllByRecursion (IsEntry k) (normal_fields fs)
-field_entries k e fs h = all-map_of word_cmp same_words (IsEntry k) _ (entries_of k e fs h)
-
-pub attribute_is_word : (w : Text) → IsWord Attribute w → IsWord Subtag w
-unfolding is_word
-attribute_is_word w h = grind (arith, nat_tests)
+field_entries k e fs h = search (all-map_of, same_words, entries_of)
 
 pub attribute_is_subtag : (w : Text) → IsNormal Attribute w → IsNormal Subtag w
-attribute_is_subtag w h = (attribute_is_word w h.0, h.1)
+unfolding is_word
+attribute_is_subtag w h = grind (arith, nat_tests)
 
 keyword_entries : (fs : Fields) → AllByRecursion IsKeyword fs →
     AllByRecursion (IsEntry UnicodeKey) (normal_fields fs)
 keyword_entries fs h = field_entries UnicodeKey (λ p. refl) fs h
 
 pub unicode_value : (u : SpelledUnicode) → IsUnicodeBlock u → IsUnicodeValue (normal_unicode u)
-unicode_value u h = record {
-  attributes = all-set_of (IsNormal Attribute) _ (all_normal Attribute u.attributes (λ p. refl) h.attributes);
-  ascending = set_of-ascending (map lower u.attributes);
-  keywords =
-      all_weaker (IsEntry UnicodeKey) (λ f. IsNormal UnicodeKey f.0 × AllByRecursion (IsNormal Subtag) f.1)
-      (λ f e. (e.0, all_weaker IsPlain (IsNormal Subtag) (λ w n. attribute_is_subtag w n.0) f.1 e.1)) _
-      (keyword_entries u.keywords h.keywords);
-  keys_ascend =
-      is_sorted-map_of word_cmp word_cmp_total (map (λ f. (lower f.0, normal_values f.1)) u.keywords);
-}
-
-pub unicode_well : (u : SpelledUnicode) → IsUnicodeBlock u →
-    AllByRecursion (λ f. AllByRecursion (λ w. (is_true w ≡ false) × (length w ≢ 2)) f.1)
-    (normal_unicode u).keywords
-unicode_well u h =
-    all_weaker (IsEntry UnicodeKey) (λ f. AllByRecursion (λ w. (is_true w ≡ false) × (length w ≢ 2)) f.1)
-    (λ f e. all_weaker IsPlain (λ w. (is_true w ≡ false) × (length w ≢ 2))
-    (λ w n. (n.1, let l = length-attribute w n.0.0 in omega arith)) f.1 e.1) _
-    (keyword_entries u.keywords h.keywords)
+unicode_value u h =
+    grind (
+      arith,
+      all-set_of,
+      all_normal,
+      set_of-ascending,
+      all_weaker,
+      attribute_is_subtag,
+      keyword_entries,
+      is_sorted-map_of,
+      word_cmp_total,
+    )
 
 pub transform_value : (T : LanguageLengths) (m : SpelledTransform) → IsTransformBlock T m →
     IsTransformValue T (normal_transform m)
 transform_value T m h = record {
-  id = some_mapped (IsIdentifier T) (IsIdentifierValue T) normal_identifier
-      (λ i g. identifier_value i g.words) m.id h.id;
-  fields = field_entries TransformKey (λ p. refl) m.fields (plain_fields m.fields h.fields);
-  keys_ascend = is_sorted-map_of word_cmp word_cmp_total (map (λ f. (lower f.0, normal_values f.1)) m.fields);
+  id = grind (arith, some_mapped, identifier_value);
+  fields = grind (arith, field_entries, plain_fields);
+  keys_ascend = simp (is_sorted-map_of, word_cmp_total);
 }
 
 -- what a look-up finds
@@ -146,18 +211,18 @@ follows T c _ h = h.1
 part_unicode : (T : LanguageLengths) (o : Option Extension) → IfSome o (FollowsRule T) →
     IsUnicodeValue (unicode_part o)
 part_unicode T (Some (unicode u)) h = unicode_value u h
-part_unicode T _ h = record { attributes = tt; ascending = tt; keywords = tt; keys_ascend = refl }
+part_unicode T _ h = search
 
 part_well : (T : LanguageLengths) (o : Option Extension) → IfSome o (FollowsRule T) →
     AllByRecursion (λ f. AllByRecursion (λ w. (is_true w ≡ false) × (length w ≢ 2)) f.1)
     (unicode_part o).keywords
-part_well T (Some (unicode u)) h = unicode_well u h
+part_well T (Some (unicode u)) h = grind (arith, all_weaker, length-attribute, keyword_entries)
 part_well T _ h = tt
 
 part_transform : (T : LanguageLengths) (o : Option Extension) → IfSome o (FollowsRule T) →
     IsTransformValue T (transform_part o)
 part_transform T (Some (transform m)) h = transform_value T m h
-part_transform T _ h = record { id = tt; fields = tt; keys_ascend = refl }
+part_transform T _ h = search
 
 kept_normal : (ps : List Text) → AllByRecursion (IsNormal Subtag) (kept ps)
 kept_normal [] = tt
@@ -172,18 +237,12 @@ other_entries : (T : LanguageLengths) (es : List (ℕ × Extension)) →
     AllByRecursion (λ e. IsExtension T (lower_singleton e) e.1) es →
     AllByRecursion IsOtherEntry (filter_map other_part (by_singleton es))
 other_entries T [] h = tt
-other_entries T (e ∷ es) h = at_kind e.1 h.0 (other_entries T es h.1)
-  where
-    at_kind : (x : Extension) → IsExtension T (lower_singleton e) x →
-        AllByRecursion IsOtherEntry (filter_map other_part (by_singleton es)) →
-        AllByRecursion IsOtherEntry (filter_map other_part ((lower_singleton e, x) ∷ by_singleton es))
-    at_kind (other ps) k rest = (((k.0, lowercase-lowercase e.0), k.1.nonempty, kept_normal ps), rest)
-    at_kind _ k rest = rest
+other_entries T (e ∷ es) h = grind (arith, lowercase-lowercase, kept_normal, other_entries T es h.1)
 
 private_value : (x : Option Block) → IfSome x (λ e. (lower_singleton e ≡ code_x) × IsPrivate e.1) →
     AllByRecursion (IsNormal PrivateSubtag) (private_part x)
 private_value None h = tt
-private_value (Some e) h = all_normal PrivateSubtag e.1 (λ p. refl) h.1.words
+private_value (Some e) h = search all_normal
 
 module _ {T : ℕ → Bool} (w : Written) (h : IsWritten T w) where
   others : AllByRecursion IsOtherEntry (extensions_meaning w).others
@@ -192,8 +251,7 @@ module _ {T : ℕ → Bool} (w : Written) (h : IsWritten T w) where
 
   rules : (q : ℕ) → IfSome (find nat_cmp q (by_singleton w.extensions)) (FollowsRule T)
   rules q =
-      find_holds (λ c. FollowsRule T) q w.extensions (all_weaker (λ e. IsExtension T (lower_singleton e) e.1)
-      (λ e. FollowsRule T e.1) (λ e k. follows T (lower_singleton e) e.1 k) w.extensions h.extensions)
+      find_holds (λ c. FollowsRule T) q w.extensions (search (all_weaker, follows))
 
   pub written_value : IsValue T (meaning w)
   written_value = record {
@@ -202,21 +260,20 @@ module _ {T : ℕ → Bool} (w : Written) (h : IsWritten T w) where
       unicode = part_unicode T _ (rules code_u);
       transform = part_transform T _ (rules code_t);
       private = private_value w.private h.private;
-      others = all_weaker IsOtherEntry (λ o. AllByRecursion (IsNormal Subtag) o.1) (λ o x. x.2) _ others;
+      others = grind (arith, all_weaker, others);
     };
   }
 
   pub written_well_formed : IsTreeWellFormed (meaning w)
   written_well_formed = record {
     ascending = is_sorted-map_of nat_cmp nat_cmp_total (filter_map other_part (by_singleton w.extensions));
-    singletons = all_weaker IsOtherEntry
-        (λ o. (is_other_singleton o.0 ≡ true) × (to_ascii_lowercase o.0 ≡ o.0)) (λ o x. x.0) _ others;
+    singletons = grind (arith, all_weaker, others);
     nonempty = all_weaker IsOtherEntry (λ o. 0 < length o.1) (λ o x. x.1) _ others;
     values = part_well T _ (rules code_u);
   }
 
 pub means_value : {T : ℕ → Bool} (t : Text) (M : Locale) → TreeMeans T t M → IsValue T M
-means_value {T = T} t M m = subst (IsValue T) (sym m.means) (written_value m.written m.grammatical)
+means_value {T = T} t M m = rw m.means (written_value m.written m.grammatical)
 
 pub means_well_formed : {T : ℕ → Bool} (t : Text) (M : Locale) → TreeMeans T t M → IsTreeWellFormed M
-means_well_formed t M m = subst IsTreeWellFormed (sym m.means) (written_well_formed m.written m.grammatical)
+means_well_formed t M m = grind (arith, written_well_formed)

@@ -2,18 +2,40 @@
 use Rattle.std.proofs.Common.{◌≡◌, inl, inr, ℕ, zero, suc, ◌≤◌, Bool, true, false, ◌&&◌, ◌||◌, ◌==◌, []}
 use Rattle.std.proofs.Common.{◌∷◌, length, map, slice_index, refl, sym, ap, ap₂, ◌∙◌, arith, ◌↔◌}
 use Rattle.std.specs.List.{list_all}
-use Rattle.std.specs.Char.{is_ascii_alphabetic, is_ascii_digit, is_ascii_alphanumeric, to_ascii_lowercase}
-use Rattle.std.specs.Char.{to_ascii_uppercase}
+use Rattle.std.specs.Char.{
+  is_ascii_alphabetic,
+  is_ascii_digit,
+  is_ascii_alphanumeric,
+  to_ascii_lowercase,
+  to_ascii_uppercase,
+}
 use Rattle.std.specs.Int.{is_in_range}
 use Rattle.std.proofs.lemmas.Bool.{and_parts, or_cases, false_from_ne_true}
 use Rattle.std.proofs.lemmas.Bool.Decides.{nat_tests}
 use Rattle.std.proofs.lemmas.List.{length-map}
 use Rattle.std.proofs.lemmas.Str.Ascii.{lowercase-lowercase, lowercase-uppercase}
-use Rattle.iloc_spec_grammar.specs.Syntax.{LanguageLengths, Text, Kind, Language, Script, Region, Variant}
-use Rattle.iloc_spec_grammar.specs.Syntax.{Subtag, UnicodeKey}
-use Rattle.iloc_spec_grammar.specs.Syntax.{TransformKey, Attribute, PrivateSubtag, SubdivisionSuffix}
-use Rattle.iloc_spec_grammar.specs.Syntax.{CurrencyType, letters, digits, letters_or_digits, is_word, IsWord}
-use Rattle.iloc_spec_grammar.specs.Syntax.{lower, upper, title, normal}
+use Rattle.iloc_spec_grammar.specs.Syntax.{
+  LanguageLengths,
+  Text,
+  Kind,
+  Language,
+  Script,
+  Region,
+  Variant,
+  UnicodeKey,
+  TransformKey,
+  Attribute,
+  CurrencyType,
+  letters,
+  digits,
+  letters_or_digits,
+  is_word,
+  IsWord,
+  lower,
+  upper,
+  title,
+  normal,
+}
 use Rattle.iloc_spec_grammar.proofs.General.{map-then, list_all-mapped}
 
 -- bytes
@@ -68,8 +90,7 @@ length-lower p = length-map p to_ascii_lowercase
 pub is_word-lower : (k : Kind) (p : Text) → is_word k (lower p) ≡ is_word k p
 unfolding is_word lower
 is_word-lower (Language T) p = ap₂ ◌&&◌ (ap T (length-lower p)) (list_all-mapped _ _ _ alphabetic-lower p)
-is_word-lower Script p =
-    ap₂ ◌&&◌ (ap (λ n. n == 4) (length-lower p)) (list_all-mapped _ _ _ alphabetic-lower p)
+is_word-lower Script p = grind (arith, ap₂, length-lower, list_all-mapped, alphabetic-lower)
 is_word-lower Region p =
     ap₂ ◌||◌ (ap₂ ◌&&◌ (ap (λ n. n == 2) (length-lower p)) (list_all-mapped _ _ _ alphabetic-lower p))
     (ap₂ ◌&&◌ (ap (λ n. n == 3) (length-lower p)) (list_all-mapped _ _ _ digit-lower p))
@@ -77,20 +98,12 @@ is_word-lower Variant p = ap₂ ◌&&◌
     (ap₂ ◌||◌ (ap (is_in_range 5 8) (length-lower p))
     (ap₂ ◌&&◌ (ap (λ n. n == 4) (length-lower p)) (at-map _ digit-lower p 0)))
     (list_all-mapped _ _ _ alphanumeric-lower p)
-is_word-lower Subtag p =
-    ap₂ ◌&&◌ (ap (is_in_range 2 8) (length-lower p)) (list_all-mapped _ _ _ alphanumeric-lower p)
 is_word-lower UnicodeKey p = ap₂ ◌&&◌ (ap (λ n. n == 2) (length-lower p))
     (ap₂ ◌&&◌ (at-map _ alphanumeric-lower p 0) (at-map _ alphabetic-lower p 1))
 is_word-lower TransformKey p = ap₂ ◌&&◌ (ap (λ n. n == 2) (length-lower p))
     (ap₂ ◌&&◌ (at-map _ alphabetic-lower p 0) (at-map _ digit-lower p 1))
-is_word-lower Attribute p =
-    ap₂ ◌&&◌ (ap (is_in_range 3 8) (length-lower p)) (list_all-mapped _ _ _ alphanumeric-lower p)
-is_word-lower PrivateSubtag p =
-    ap₂ ◌&&◌ (ap (is_in_range 1 8) (length-lower p)) (list_all-mapped _ _ _ alphanumeric-lower p)
-is_word-lower SubdivisionSuffix p =
-    ap₂ ◌&&◌ (ap (is_in_range 1 4) (length-lower p)) (list_all-mapped _ _ _ alphanumeric-lower p)
-is_word-lower CurrencyType p =
-    ap₂ ◌&&◌ (ap (λ n. n == 3) (length-lower p)) (list_all-mapped _ _ _ alphabetic-lower p)
+is_word-lower CurrencyType p = grind (arith, ap₂, length-lower, list_all-mapped, alphabetic-lower)
+is_word-lower _ p = grind (arith, ap₂, length-lower, list_all-mapped, alphanumeric-lower)
 
 pub is_word-same : (k : Kind) (p q : Text) → lower p ≡ lower q → is_word k p ≡ is_word k q
 is_word-same k p q e = sym (is_word-lower k p) ∙ ap (is_word k) e ∙ is_word-lower k q
@@ -167,18 +180,15 @@ variant_no_region p h = false_from_ne_true _
 pub digit_no_letter : (c : ℕ) → is_ascii_digit c ≡ true → is_ascii_alphabetic c ≡ false
 digit_no_letter c h = grind (arith, nat_tests)
 
-first_digit : (p : Text) → IsWord Variant p → length p ≡ 4 → is_ascii_digit (slice_index p 0) ≡ true
-unfolding is_word
-first_digit p h e = grind (arith, nat_tests)
-
 first_letter : (p : Text) → IsWord Script p → is_ascii_alphabetic (slice_index p 0) ≡ true
 unfolding is_word
-first_letter [] h = grind (arith, nat_tests)
+first_letter [] h = cc
 first_letter (c ∷ p) h = (and_parts _ _ ((and_parts _ _ h).1)).0
 
 pub variant_no_script : (p : Text) → IsWord Variant p → is_word Script p ≡ false
+unfolding is_word
 variant_no_script p h = false_from_ne_true _ (λ s. let a = first_letter p s in
-    let b = digit_no_letter (slice_index p 0) (first_digit p h (length-script p s)) in cc)
+    let b = digit_no_letter (slice_index p 0) (grind (arith, nat_tests)) in cc)
 
 -- each byte of a word is a letter or a digit
 
@@ -191,14 +201,14 @@ pub letter_is : (c : ℕ) → is_ascii_alphabetic c ≡ true → is_ascii_alphan
 letter_is c h = grind (arith, nat_tests)
 
 pub digit_is : (c : ℕ) → is_ascii_digit c ≡ true → is_ascii_alphanumeric c ≡ true
-digit_is c h = grind (arith, nat_tests)
+digit_is c h = cc
 
 two_are : (f g : ℕ → Bool) → ((c : ℕ) → f c ≡ true → is_ascii_alphanumeric c ≡ true) →
     ((c : ℕ) → g c ≡ true → is_ascii_alphanumeric c ≡ true) → (p : Text) → (length p == 2) ≡ true →
     f (slice_index p 0) ≡ true → g (slice_index p 1) ≡ true → letters_or_digits p ≡ true
 two_are f g h k [] e a b = refl
-two_are f g h k (c ∷ []) e a b = ap₂ ◌&&◌ (h c a) refl
-two_are f g h k (c ∷ d ∷ []) e a b = ap₂ ◌&&◌ (h c a) (ap₂ ◌&&◌ (k d b) refl)
+two_are f g h k (c ∷ []) e a b = cc
+two_are f g h k (c ∷ d ∷ []) e a b = grind (arith, ap₂)
 two_are f g h k (c ∷ d ∷ x ∷ p) e a b = grind (arith, nat_tests)
 
 pub word_letters_or_digits : (k : Kind) (p : Text) → IsWord k p → letters_or_digits p ≡ true

@@ -1,12 +1,29 @@
 -- The rule of a block, by its singleton.
-use Rattle.std.proofs.Common.{◌≡◌, ◌≤◌, ◌↔◌, inl, inr, ℕ, Bool, true, [], ◌∷◌, sym, refl, subst, arith}
+use Rattle.std.proofs.Common.{◌≡◌, ◌≤◌, ◌↔◌, inl, inr, ℕ, Bool, true, [], ◌∷◌, refl, arith}
 use Rattle.std.specs.Char.{is_ascii_alphanumeric, to_ascii_lowercase}
 use Rattle.std.proofs.lemmas.Bool.Decides.{nat_tests}
-use Rattle.iloc_spec_grammar.specs.Syntax.{LanguageLengths, Block, code_x, code_u, code_t, Unicode, Transform}
-use Rattle.iloc_spec_grammar.specs.Syntax.{IsOther, is_other_singleton, lower_singleton}
-use Rattle.iloc_spec_grammar.specs.Syntax.{IsPrivate}
-use Rattle.iloc_spec_grammar.specs.Tree.{Extension, unicode, transform, other, extension_pieces, IsExtension}
-use Rattle.iloc_spec_grammar.specs.Tree.{IsBlock}
+use Rattle.iloc_spec_grammar.specs.Syntax.{
+  LanguageLengths,
+  Block,
+  code_x,
+  code_u,
+  code_t,
+  Unicode,
+  Transform,
+  IsOther,
+  is_other_singleton,
+  lower_singleton,
+  IsPrivate,
+}
+use Rattle.iloc_spec_grammar.specs.Tree.{
+  Extension,
+  unicode,
+  transform,
+  other,
+  extension_pieces,
+  IsExtension,
+  IsBlock,
+}
 use Rattle.iloc_spec_grammar.specs.Meaning.{normal_unicode, normal_transform, AreBlocks}
 use Rattle.iloc_spec_grammar.specs.ByBlocks.{UnicodeMeans, TransformMeans}
 use Rattle.iloc_spec_grammar.proofs.Singletons.{no_u, no_t, no_x}
@@ -40,12 +57,7 @@ module _ (T : LanguageLengths) (b : Block) where
       at (other ps) h s = absurd (no_t _ e h.0)
 
   pub private_rule : lower_singleton b ≡ code_x → IsBlock T b ↔ IsPrivate b.1
-  private_rule e = (λ x. elim x [ inl p ↦ p.1 | inr q ↦ at q.0 q.1 ], λ h. inl (e, h))
-    where
-      at : (f : Extension) → IsExtension T (lower_singleton b) f → IsPrivate b.1
-      at (unicode u) h = absurd (omega arith)
-      at (transform m) h = absurd (omega arith)
-      at (other ps) h = absurd (no_x _ e h.0)
+  private_rule e = grind (arith, no_x)
 
   pub other_rule : is_other_singleton (lower_singleton b) ≡ true → IsBlock T b ↔ IsOther b.1
   other_rule e = (
@@ -56,7 +68,7 @@ module _ (T : LanguageLengths) (b : Block) where
       at : (f : Extension) → IsExtension T (lower_singleton b) f → b.1 ≡ extension_pieces f → IsOther b.1
       at (unicode u) h s = absurd (no_u _ h.0 e)
       at (transform m) h s = absurd (no_t _ h.0 e)
-      at (other ps) h s = subst IsOther (sym s) h.1
+      at (other ps) h s = rw s h.1
 
 -- the rule of a block that stands alone
 

@@ -2,9 +2,16 @@
 use Rattle.std.proofs.Common.{◌≡◌, ◌↔◌, ℕ, ◌^◌, ◌<◌, ◌≤◌, ◌+◌, [], ◌++◌, length, Option, Some, None}
 use Rattle.std.proofs.Common.{refl, ap, arith, length-append}
 use Rattle.std.specs.Hash.{HashWrites, option}
-use Rattle.iloc_spec_parts.specs.Hashes.{HashesByOrder, word_fed}
-use Rattle.iloc_spec_parts.proofs.HashLaws.{Tells, word_few, word_tells, both_tell, option_tells, through}
-use Rattle.iloc_spec_parts.proofs.HashLaws.{hashes_by}
+use Rattle.iloc_spec_parts.specs.Hashes.{HashesByOrder}
+use Rattle.iloc_spec_parts.proofs.HashLaws.{
+  Tells,
+  word_few,
+  word_tells,
+  both_tell,
+  option_tells,
+  through,
+  hashes_by,
+}
 use Rattle.iloc_spec_parts.specs.Subdivisions.{Subdivision}
 use Rattle.iloc_spec_parts.specs.DataLocales.{DataLocale, DataKey, data_key}
 use Rattle.iloc_spec_parts.specs.DataOrders.{subdivision_cmp}
@@ -35,23 +42,10 @@ optional_few f n h None = omega arith
 optional_few f n h (Some x) = let l = h x in omega arith
 
 subdivision_few : (s : Subdivision) → length (subdivision_fed s) ≤ 4
-subdivision_few s =
-    let r = word_few s.region in
-    let w = word_few s.suffix in
-    let l = length-append (word_fed s.region) (word_fed s.suffix) in omega arith
+subdivision_few s = grind (arith, word_few, length-append)
 
 key_few : (k : DataKey) → length (data_key_fed k) < 2 ^ 64
-key_few k =
-    let s = optional_few word_fed 2 word_few k.script in
-    let r = optional_few subdivision_fed 4 subdivision_few k.region in
-    let l = word_few k.language in
-    let v = optional_few word_fed 2 word_few k.variant in
-    let a = length-append (word_fed k.language ++ option word_fed k.script ++ option subdivision_fed k.region)
-    (option word_fed k.variant) in
-    let b =
-    length-append (word_fed k.language ++ option word_fed k.script) (option subdivision_fed k.region) in
-    let c = length-append (word_fed k.language) (option word_fed k.script) in
-    omega arith
+key_few k = grind (arith, optional_few, word_few, subdivision_few, length-append)
 
 pub data_locale_hashes : (d e : DataLocale) →
     (data_locale_fed d ≡ data_locale_fed e) ↔ (data_key d ≡ data_key e)

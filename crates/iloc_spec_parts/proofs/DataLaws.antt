@@ -1,39 +1,100 @@
 -- Data locales: reading and printing.
-use Rattle.std.proofs.Common.{◌≡◌, ◌≤◌, ◌⊎◌, ℕ, Bool, true, false, cond, List, [], ◌∷◌, ◌++◌, length, refl}
-use Rattle.std.proofs.Common.{sym, ap, ◌∙◌, subst, arith, Option, Some, None, IfSome, MatchResult, Result, Ok}
-use Rattle.std.proofs.Common.{Err, ok_or, option_map, option_and_then, option_to_list, codes, append_assoc}
-use Rattle.std.proofs.Common.{append-nil}
+use Rattle.std.proofs.Common.{
+  ◌≡◌,
+  ◌≤◌,
+  ◌⊎◌,
+  ℕ,
+  Bool,
+  true,
+  false,
+  cond,
+  List,
+  ◌∷◌,
+  ◌++◌,
+  length,
+  refl,
+  sym,
+  ap,
+  ◌∙◌,
+  arith,
+  Option,
+  Some,
+  None,
+  IfSome,
+  MatchResult,
+  Result,
+  Ok,
+  Err,
+  ok_or,
+  option_map,
+  option_and_then,
+  option_to_list,
+  append_assoc,
+  append-nil,
+}
 use Rattle.std.specs.Result.{result_ok}
 use Rattle.std.proofs.lemmas.Bool.{cond_both}
 use Rattle.std.proofs.lemmas.Bool.Decides.{nat_tests}
-use Rattle.iloc_spec_grammar.specs.Syntax.{Text, join, Region, Subtag, UnicodeKey, Attribute}
-use Rattle.iloc_spec_grammar.specs.Syntax.{SubdivisionSuffix}
-use Rattle.iloc_spec_grammar.specs.Syntax.{is_word, IsWord, AreLengths, lower, is_same, is_true}
-use Rattle.iloc_spec_grammar.specs.Syntax.{identifier_pieces}
+use Rattle.iloc_spec_grammar.specs.Syntax.{
+  Text,
+  Region,
+  Subtag,
+  UnicodeKey,
+  Attribute,
+  SubdivisionSuffix,
+  is_word,
+  IsWord,
+  AreLengths,
+  lower,
+  is_same,
+  is_true,
+}
 use Rattle.iloc_spec_grammar.specs.Meaning.{Locale, Fault, InvalidExtension}
 use Rattle.iloc_spec_grammar.specs.Values.{IsNormal, IsValue, IsWellFormed, extensions_spelling, text}
 use Rattle.iloc_spec_grammar.proofs.MapLaws.{same_itself, same_is}
 use Rattle.iloc_spec_grammar.proofs.WordsLaws.{is_word-lower, lower-lower}
 use Rattle.iloc_spec_grammar.proofs.Corollaries.{same_text_same_value}
-use Rattle.iloc_spec_parts.specs.Small.{SmallIdentifier, SmallLocale, identifier_of_small, locale_of_small}
-use Rattle.iloc_spec_parts.specs.Small.{IsSmall, HasSmallFault, IsSmallValue}
+use Rattle.iloc_spec_parts.specs.Small.{SmallIdentifier, SmallLocale, IsSmall, HasSmallFault, IsSmallValue}
 use Rattle.iloc_spec_grammar.specs.Reading.{first_item}
-use Rattle.iloc_spec_parts.specs.Subdivisions.{Subdivision, subdivision, subdivision_text}
-use Rattle.iloc_spec_parts.specs.Subdivisions.{IsSubdivision}
+use Rattle.iloc_spec_parts.specs.Subdivisions.{Subdivision, subdivision, subdivision_text, IsSubdivision}
 use Rattle.iloc_spec_parts.specs.DataComputing.{data_of_result, data_result}
-use Rattle.iloc_spec_parts.specs.DataLocales.{DataLocale, IsDataLocale, whole, whole_region, is_whole}
-use Rattle.iloc_spec_parts.specs.DataLocales.{named_subdivision, made_of, agreed, small_part}
-use Rattle.iloc_spec_parts.specs.DataLocales.{data_of_small, DataMeans, HasDataFault, not_small}
-use Rattle.iloc_spec_parts.specs.DataLocales.{no_subdivision, subdivision_value, subdivision_keyword}
-use Rattle.iloc_spec_parts.specs.DataLocales.{subdivision_pieces, data_text, small_of_data}
-use Rattle.iloc_spec_parts.specs.DataLocales.{locale_of_data}
+use Rattle.iloc_spec_parts.specs.DataLocales.{
+  DataLocale,
+  IsDataLocale,
+  whole,
+  whole_region,
+  is_whole,
+  named_subdivision,
+  made_of,
+  agreed,
+  small_part,
+  data_of_small,
+  DataMeans,
+  HasDataFault,
+  not_small,
+  no_subdivision,
+  subdivision_value,
+  subdivision_keyword,
+  data_text,
+  small_of_data,
+  locale_of_data,
+}
 use Rattle.iloc_spec_parts.proofs.Keys.{sd}
 use Rattle.iloc_spec_parts.proofs.SmallLaws.{one_small, small_answer, small_apart, one_small_fault, by_result}
 use Rattle.iloc_spec_parts.specs.SmallComputing.{small_result}
-use Rattle.iloc_spec_parts.proofs.SmallBack.{small_back, small_is_value, small_is_well_formed}
-use Rattle.iloc_spec_parts.proofs.SmallBack.{read_is_small_value}
-use Rattle.iloc_spec_parts.proofs.SubdivisionLaws.{subdivision_back, subdivision_is_subtag}
-use Rattle.iloc_spec_parts.proofs.SubdivisionLaws.{read_is_subdivision, text_of_read, read_is_long}
+use Rattle.iloc_spec_parts.proofs.SmallBack.{
+  small_back,
+  small_is_value,
+  small_is_well_formed,
+  read_is_small_value,
+}
+use Rattle.iloc_spec_parts.proofs.SubdivisionLaws.{
+  subdivision_back,
+  subdivision_is_subtag,
+  read_is_subdivision,
+  text_of_read,
+  read_is_long,
+}
 
 -- what is read of a text
 
@@ -83,33 +144,15 @@ abbrev keyword_by : Option Text → Option (Text × Option Text)
 keyword_by o = option_map (λ w. (sd, first_item (subdivision_value w))) o
 
 value_once : (w : Text) → option_to_list (first_item (subdivision_value w)) ≡ subdivision_value w
-value_once w = elim (is_true (lower w))
-    as (λ b. option_to_list (first_item (cond b [] (lower w ∷ []))) ≡ cond b [] (lower w ∷ []))
-    [ true ↦ refl | false ↦ refl ]
+value_once w = grind arith
 
 words_first : (l : Text) (s r v : List Text) (rest : List Text) →
     (l ∷ (s ++ (r ++ v))) ++ rest ≡ l ∷ (s ++ (r ++ (v ++ rest)))
-words_first l s r v rest =
-    ap (λ ws. l ∷ ws) (append_assoc s (r ++ v) rest ∙ ap (λ ws. s ++ ws) (append_assoc r v rest))
+words_first l s r v rest = simp append_assoc
 
 pub text_of_data : (d : DataLocale) → text (locale_of_data d) ≡ data_text d
 unfolding extensions_spelling
-text_of_data d = from (subdivision_keyword d)
-  where
-    id : SmallIdentifier
-    id = record { language = d.language; script = d.script; region = d.region; variant = d.variant }
-
-    from : (o : Option Text) →
-        text (locale_of_small (record { id = id; keyword = keyword_by o }))
-        ≡ join (d.language
-        ∷ (option_to_list d.script
-        ++ (option_to_list d.region ++ (option_to_list d.variant ++ subdivision_pieces o))))
-    from None = ap join (words_first d.language (option_to_list d.script) (option_to_list d.region)
-        (option_to_list d.variant) [])
-    from (Some w) = ap join (ap (λ vs. identifier_pieces (identifier_of_small id) ++ (codes "u" ∷ sd ∷ vs))
-        (append-nil _ ∙ append-nil _ ∙ value_once w)
-        ∙ words_first d.language (option_to_list d.script) (option_to_list d.region)
-        (option_to_list d.variant) (subdivision_pieces (Some w)))
+text_of_data d = grind (arith, words_first, sd, append-nil, value_once)
 
 -- the keyword of a data locale
 
@@ -128,11 +171,7 @@ keyword_words : (o : Option Text) → IfSome o (IsNormal Subtag) →
     IsKeywordOf
     (option_and_then (λ w. option_and_then (λ s. cond (is_whole s) None (Some w)) (named_subdivision w)) o)
 keyword_words None h = tt
-keyword_words (Some w) h = elim (subdivision w) as (λ r.
-    subdivision w ≡ r → IsKeywordOf (option_and_then (λ s. cond (is_whole s) None (Some w)) (result_ok r))) [
-      | Err f ↦ λ e. tt
-      | Ok s ↦ λ e. cond_both (is_whole s) _ _ IsKeywordOf (λ w. tt) (λ w. (h.0, read_is_long _ s e))
-    ] refl
+keyword_words (Some w) h = grind (arith, cond_both, read_is_long)
 
 pub small_value_of_data : {T : ℕ → Bool} (d : DataLocale) → IsDataLocale T d →
     IsSmallValue T (small_of_data d)
@@ -165,8 +204,7 @@ locale_of_data_is_value d h = small_is_value (small_of_data d) (small_value_of_d
 
 pub locale_of_data_is_well_formed : {T : ℕ → Bool} → AreLengths T → (d : DataLocale) → IsDataLocale T d →
     IsWellFormed (locale_of_data d)
-locale_of_data_is_well_formed table d h =
-    small_is_well_formed table (small_of_data d) (small_value_of_data d h)
+locale_of_data_is_well_formed table d h = search (small_is_well_formed, small_value_of_data)
 
 -- what is read: made of a part that spells no `true`
 
@@ -189,8 +227,7 @@ whole_part r h = (whole_region_is r h, λ e. absurd (cc))
 agreed_part : (region : Option Text) (s : Subdivision) → IfSome region (IsNormal Region) → IsReadPart s →
     IsReadPart (agreed region s)
 agreed_part None s h p = p
-agreed_part (Some r) s h p = elim (is_same r s.region) as (λ b. IsReadPart (cond b s (whole_region r)))
-    [ true ↦ p | false ↦ whole_part r h ]
+agreed_part (Some r) s h p = grind (arith, whole_part)
 
 parts_read : (region : Option Text) (k : Option (Text × Option Text)) →
     IfSome region (IsNormal Region) →
@@ -235,7 +272,7 @@ pub read_is_data_locale : {T : ℕ → Bool} (t : Text) (d : DataLocale) → Dat
 read_is_data_locale {T = T} t d h =
     let v = read_is_small_value t h.small h.is_small in
     let m = read_made t d h in
-    subst (IsDataLocale T) (sym m.2) (record {
+    rw m.2 (record {
       language = v.language;
       script = v.script;
       region = region_is m.0 m.1;
@@ -277,8 +314,8 @@ read_back {T = T} t d h =
     let m = read_made t d h in
     record {
       small = small_of_data d;
-      is_small = subst (λ (u : Text). IsSmall T u (small_of_data d)) (text_of_data d)
-          (small_back (small_of_data d) (small_value_of_data d (read_is_data_locale t d h)));
+      is_small = rw (text_of_data d) at (small_back (small_of_data d)
+          (small_value_of_data d (read_is_data_locale t d h)));
       means = ap (λ (e : DataLocale). data_of_small (small_of_data e)) m.2
           ∙ ap (option_map (λ part. made_of h.small.id.language h.small.id.script part h.small.id.variant))
           (part_back m.0 m.1)
@@ -293,5 +330,8 @@ data_or_fault {T = T} table t =
 -- no other well-formed value has its text
 pub only_locale : {T : ℕ → Bool} → AreLengths T → (d : DataLocale) → IsDataLocale T d → (M : Locale) →
     IsValue T M → IsWellFormed M → text M ≡ data_text d → M ≡ locale_of_data d
-only_locale {T = T} table d h M v w e = same_text_same_value M (locale_of_data d) w
-    (locale_of_data_is_well_formed table d h) (e ∙ sym (text_of_data d))
+only_locale {T = T} table d h M v w e = search (
+  same_text_same_value,
+  locale_of_data_is_well_formed,
+  text_of_data,
+)

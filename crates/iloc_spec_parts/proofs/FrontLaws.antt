@@ -1,15 +1,39 @@
 -- The readers of what comes after `u`, after other singletons and after `x`.
-use Rattle.std.proofs.Common.{◌≡◌, ◌↔◌, inl, inr, ℕ, ◌+◌, ◌<◌, ◌≤◌, true, false, not, ◌&&◌, ◌||◌}
+use Rattle.std.proofs.Common.{◌≡◌, ◌↔◌, ℕ, ◌+◌, ◌<◌, ◌≤◌, true, false, not, ◌&&◌, ◌||◌}
 use Rattle.std.proofs.Common.{nat_lt, List, [], ◌∷◌, ◌++◌, length, map, refl, sym, ap, ap₂, ◌∙◌, subst, arith}
 use Rattle.std.proofs.Common.{true≢false, append_assoc, Result, Ok, Err}
 use Rattle.std.specs.List.{AllByRecursion, list_any}
-use Rattle.std.proofs.lemmas.Bool.{or_parts, or_cases, not-false, cond_both, false_from_ne_true, eqb-true}
-use Rattle.std.proofs.lemmas.Bool.{ne_eqb, ltb-true}
+use Rattle.std.proofs.lemmas.Bool.{
+  or_parts,
+  or_cases,
+  not-false,
+  cond_both,
+  false_from_ne_true,
+  eqb-true,
+  ne_eqb,
+  ltb-true,
+}
 use Rattle.std.proofs.lemmas.List.{nil_from_length}
 use Rattle.std.proofs.lemmas.Bool.Decides.{nat_tests}
-use Rattle.iloc_spec_grammar.specs.Syntax.{Field, Text, UnicodeKey, Attribute, is_word, IsWord, lower, Fields}
-use Rattle.iloc_spec_grammar.specs.Syntax.{SpelledUnicode, Unicode, fields_pieces, unicode_pieces, IsKeyword}
-use Rattle.iloc_spec_grammar.specs.Syntax.{IsUnicode, IsOther, kept, front}
+use Rattle.iloc_spec_grammar.specs.Syntax.{
+  Field,
+  Text,
+  UnicodeKey,
+  Attribute,
+  is_word,
+  IsWord,
+  lower,
+  Fields,
+  SpelledUnicode,
+  Unicode,
+  fields_pieces,
+  unicode_pieces,
+  IsKeyword,
+  IsUnicode,
+  IsOther,
+  kept,
+  front,
+}
 use Rattle.iloc_spec_grammar.specs.Tree.{IsUnicodeBlock}
 use Rattle.iloc_spec_grammar.specs.Meaning.{set_of, normal_fields, normal_unicode, Fault, InvalidExtension}
 use Rattle.iloc_spec_grammar.specs.ByBlocks.{UnicodeMeans, OtherMeans}
@@ -17,23 +41,59 @@ use Rattle.iloc_spec_grammar.specs.Reading.{EndsBefore, starts_block, from_block
 use Rattle.iloc_spec_grammar.proofs.WordsLaws.{length-attribute, length-unicode_key}
 use Rattle.iloc_spec_grammar.proofs.ValuesLaws.{all_weaker}
 use Rattle.iloc_spec_grammar.proofs.ReadBack.{all_append}
-use Rattle.iloc_spec_grammar.proofs.Readings.{IsLong, long_attribute, long_between, keywords_pass, not_two}
-use Rattle.iloc_spec_grammar.proofs.Readings.{two as two_bytes_of}
-use Rattle.iloc_spec_grammar.proofs.Readings.{fields_read}
+use Rattle.iloc_spec_grammar.proofs.Readings.{
+  IsLong,
+  long_attribute,
+  long_between,
+  keywords_pass,
+  not_two,
+  two as two_bytes_of,
+  fields_read,
+}
 use Rattle.iloc_spec_grammar.proofs.ReadingLaws.{front-from_block, from_block_starts, all_while}
 use Rattle.iloc_spec_grammar.specs.Computing.{is_other, is_private}
 use Rattle.iloc_spec_grammar.proofs.RuleTests.{tests_other, tests_not}
 use Rattle.iloc_spec_grammar.proofs.RuleTests as rules
 use Rattle.iloc_spec_parts.specs.Readers.{IsReader, AgreesWithBlocks}
-use Rattle.iloc_spec_parts.specs.Fronts.{attributes_front, after_attributes, is_keyword_piece, keywords_front}
-use Rattle.iloc_spec_parts.specs.Fronts.{after_keywords, is_bad_key, KeywordsRead, KeywordsFault, bad_key}
-use Rattle.iloc_spec_parts.specs.Fronts.{UnicodeRead, UnicodeFault, in_keywords, both_absent}
-use Rattle.iloc_spec_parts.specs.Fronts.{has_other_length, other_front, OtherRead, OtherFault, no_word}
-use Rattle.iloc_spec_parts.specs.Fronts.{PrivateRead, PrivateFault, not_private, keywords_result}
-use Rattle.iloc_spec_parts.specs.Fronts.{attributes_and, unicode_result, other_result, private_result}
-use Rattle.iloc_spec_parts.proofs.FieldLaws.{passing_all, passing_stops, past_stops, all_from_pieces}
-use Rattle.iloc_spec_parts.proofs.FieldLaws.{passing_from_all, front_of_fields, fields_words, fields_stop}
-use Rattle.iloc_spec_parts.proofs.FieldLaws.{pieces_pass}
+use Rattle.iloc_spec_parts.specs.Fronts.{
+  attributes_front,
+  after_attributes,
+  is_keyword_piece,
+  keywords_front,
+  after_keywords,
+  is_bad_key,
+  KeywordsRead,
+  KeywordsFault,
+  bad_key,
+  UnicodeRead,
+  UnicodeFault,
+  in_keywords,
+  both_absent,
+  has_other_length,
+  other_front,
+  OtherRead,
+  OtherFault,
+  no_word,
+  PrivateRead,
+  PrivateFault,
+  not_private,
+  keywords_result,
+  attributes_and,
+  unicode_result,
+  other_result,
+  private_result,
+}
+use Rattle.iloc_spec_parts.proofs.FieldLaws.{
+  passing_all,
+  passing_stops,
+  past_stops,
+  all_from_pieces,
+  passing_from_all,
+  front_of_fields,
+  fields_words,
+  fields_stop,
+  pieces_pass,
+}
 use Rattle.iloc_spec_parts.proofs.ReaderLaws.{reader_of, agreeing, until_block, Answer, Answers}
 use Rattle.std.proofs.Math.Bool.{or-true, and-false}
 
@@ -89,8 +149,7 @@ keywords_answer ps = cond_both (list_any is_bad_key (keywords_front ps)) _ _
 
 keywords_apart : (ps : List Text) (m : Fields) (rest : List Text) (f : Fault) →
     KeywordsRead ps m rest → KeywordsFault ps f → ⊥
-keywords_apart ps m rest f h (bad_key b) =
-    true≢false (sym b ∙ ap (list_any is_bad_key) h.spelled ∙ keywords_no_fault h.written h.keywords)
+keywords_apart ps m rest f h (bad_key b) = grind (arith, true≢false, keywords_no_fault)
 
 keywords_fault : {ps : List Text} {f : Fault} → KeywordsFault ps f → f ≡ InvalidExtension
 keywords_fault (bad_key b) = refl
@@ -109,9 +168,7 @@ one_unicode ps v w rest more a b =
     (λ i. record { attributes = (a.attributes_are ∙ sym b.attributes_are) i; keywords = k.0 i }, k.1)
 
 none_of : (xs ys : List Text) → nat_lt 0 (length xs + length ys) ≡ false → (xs ≡ []) × (ys ≡ [])
-none_of xs ys h =
-    let none : length xs + length ys ≡ 0 = grind (arith, nat_tests) in
-    (nil_from_length xs (omega arith), nil_from_length ys (omega arith))
+none_of xs ys h = grind (arith, nat_tests, nil_from_length)
 
 pub unicode_answer : Answers UnicodeRead UnicodeFault unicode_result
 unfolding unicode_result
@@ -131,11 +188,8 @@ unicode_answer ps =
 
 unicode_apart : (ps : List Text) (u : Unicode) (rest : List Text) (f : Fault) →
     UnicodeRead ps u rest → UnicodeFault ps f → ⊥
-unicode_apart ps u rest f h (in_keywords k) =
-    keywords_apart (after_attributes ps) u.keywords rest f h.keywords_are k
-unicode_apart ps u rest f h (both_absent a k) =
-    let none : 0 < 0 = subst (λ (n : ℕ). 0 < n) ((λ i. length (a i) + length (k i))) h.nonempty in
-    absurd (omega arith)
+unicode_apart ps u rest f h (in_keywords k) = search keywords_apart
+unicode_apart ps u rest f h (both_absent a k) = grind arith
 
 unicode_fault : {ps : List Text} {f : Fault} → UnicodeFault ps f → f ≡ InvalidExtension
 unicode_fault (in_keywords h) = keywords_fault h
@@ -148,10 +202,7 @@ unicode_reader = reader_of UnicodeRead UnicodeFault unicode_result unicode_answe
 -- and its block
 
 long_keyword_piece : (p : Text) → is_keyword_piece p ≡ true → IsLong p
-long_keyword_piece p h = elim (or_cases _ _ h) [
-  | inl e ↦ let two = eqb-true (length p) 2 e in ne_eqb (length p) 1 (λ one. absurd (omega arith))
-  | inr k ↦ long_attribute p k
-]
+long_keyword_piece p h = grind (arith, or_cases, eqb-true, ne_eqb, long_attribute)
 
 -- each field is a piece at least
 some_pieces : (n : ℕ) (fs : Fields) → (0 < n + length (fields_pieces fs)) ↔ (0 < n + length fs)
@@ -179,7 +230,7 @@ unicode_whole ps u rest h s =
           attributes = passing_all (is_word Attribute) ps;
           keywords = k.keywords;
           nonempty = (some_pieces (length a) k.written).0
-              (subst (λ (l : List Text). 0 < length a + length l) k.spelled h.nonempty);
+              (rw k.spelled at h.nonempty);
         };
         spelled = ap front all ∙ ends.0 ∙ ap (λ l. a ++ l) k.spelled;
         means = λ i. record { attributes = h.attributes_are i; keywords = k.means i };
@@ -188,7 +239,7 @@ unicode_whole ps u rest h s =
     )
 
 pub not_attribute : (p : Text) → length p ≤ 2 → is_word Attribute p ≡ false
-not_attribute p h = false_from_ne_true _ (λ a. let l = length-attribute p a in absurd (omega arith))
+not_attribute p h = grind (arith, false_from_ne_true, length-attribute)
 
 -- what may follow a block goes on with none of its parts
 pub record NoneGoOn (rest : List Text) : Type 0 where
@@ -197,22 +248,15 @@ pub record NoneGoOn (rest : List Text) : Type 0 where
   pub two_bytes : EndsBefore is_two rest
 
 pub block_ends : (rest : List Text) → starts_block rest ≡ true → NoneGoOn rest
-block_ends [] e = record { attribute = tt; keyword_piece = tt; two_bytes = tt }
-block_ends (p ∷ ps) e =
-    let one = eqb-true (length p) 1 e in
-    let n = not_attribute p (omega arith) in
-    let m : is_two p ≡ false = rw one refl in
-    record { attribute = n; keyword_piece = λ i. m i || n i; two_bytes = m }
+block_ends [] e = grind arith
+block_ends (p ∷ ps) e = grind (arith, eqb-true, not_attribute)
 
 pub value_goes_on : (p : Text) → IsWord Attribute p → is_keyword_piece p ≡ true
 value_goes_on p w = ap (λ b. is_two p || b) w ∙ or-true (is_two p)
 
 keyword_goes_on : (f : Field) → IsKeyword f →
     (is_keyword_piece f.0 ≡ true) × AllByRecursion (λ p. is_keyword_piece p ≡ true) f.1
-keyword_goes_on f r = (
-  ap (λ b. b || is_word Attribute f.0) (two_bytes_of f.0 r.0),
-  all_weaker (IsWord Attribute) (λ p. is_keyword_piece p ≡ true) value_goes_on f.1 r.1,
-)
+keyword_goes_on f r = search (two_bytes_of, all_weaker, value_goes_on)
 
 -- what is taken of spelled attributes and keywords
 pub record Taken (w : SpelledUnicode) (rest : List Text) : Type 0 where
@@ -268,18 +312,16 @@ unicode_spelled w rest g e =
     let t = unicode_taken w rest (record { attributes = g.attributes; keywords = g.keywords }) e in
     record {
       attributes_are = ap (λ l. set_of (map lower l)) (sym t.attributes);
-      keywords_are = subst (λ (l : List Text). KeywordsRead l (normal_unicode w).keywords rest)
-          (sym t.after) (record {
-            written = w.keywords;
-            keywords = g.keywords;
-            spelled = t.keywords;
-            means = refl;
-            left = sym t.left;
-          });
-      nonempty = subst (λ (n : ℕ). 0 < n)
-          (sym ((λ i. length (t.attributes i) + length (keywords_front (t.after i)))
+      keywords_are = rw t.after (record {
+        written = w.keywords;
+        keywords = g.keywords;
+        spelled = t.keywords;
+        means = refl;
+        left = sym t.left;
+      });
+      nonempty = rw (sym ((λ i. length (t.attributes i) + length (keywords_front (t.after i)))
           ∙ ap (λ l. length w.attributes + length l) t.keywords))
-          ((some_pieces (length w.attributes) w.keywords).1 g.nonempty);
+          at ((some_pieces (length w.attributes) w.keywords).1 g.nonempty);
     }
 
 unicode_block : (ps : List Text) (u : Unicode) → UnicodeMeans (front ps) u →
@@ -288,8 +330,7 @@ unicode_block ps u h =
     let pieces_are : unicode_pieces h.written ++ from_block ps ≡ ps =
     ap (λ l. l ++ from_block ps) (sym h.spelled) ∙ front-from_block ps in
     subst (λ (v : Unicode). UnicodeRead ps v (from_block ps)) (sym h.means)
-    (subst (λ (l : List Text). UnicodeRead l (normal_unicode h.written) (from_block ps)) pieces_are
-    (unicode_spelled h.written (from_block ps) h.grammatical (from_block_starts ps)))
+    (rw pieces_are at (unicode_spelled h.written (from_block ps) h.grammatical (from_block_starts ps)))
 
 pub unicode_agrees : AgreesWithBlocks UnicodeRead UnicodeFault UnicodeMeans
 unicode_agrees = agreeing UnicodeRead UnicodeFault UnicodeMeans unicode_reader unicode_whole unicode_block

@@ -1,25 +1,32 @@
 -- Values that tie feed a hasher alike, and what is fed tells them apart: each part tells its value, and where
 -- it ends.
 use Rattle.std.proofs.Common.{◌≡◌, ℕ, zero, suc, ◌^◌, ◌<◌, ◌≤◌, ◌-◌, ◌==◌, List, [], ◌∷◌, ◌++◌, length}
-use Rattle.std.proofs.Common.{refl, sym, ap, ◌∙◌, subst, Bool, true, false, replicate}
+use Rattle.std.proofs.Common.{refl, sym, ap, ◌∙◌, Bool, true, false, replicate}
 use Rattle.std.proofs.Common.{Option, Some, None, append_assoc, length-append, arith, if◌then◌else◌}
-use Rattle.std.specs.Prelude.{nat_le, nat_lt}
-use Rattle.std.specs.List.{list_all}
+use Rattle.std.specs.Prelude.{nat_lt}
+use Rattle.std.specs.List.{list_all, flat_map}
 use Rattle.std.proofs.lemmas.List.{length-replicate}
 use Rattle.std.proofs.lemmas.Bool.Decides.{nat_tests}
 use Rattle.std.proofs.lemmas.Nat.{from_le_bytes-to_le_bytes_8}
-use mir.Syntax.{w64}
-use Rattle.std.specs.Int.{from_le_bytes}
-use Rattle.std.specs.List.{flat_map}
 use Rattle.std.specs.Hash.{HashWrites, u8, slice, option, le_bytes}
 use Rattle.std.specs.declared.cmp.Ordering.{Ordering}
 use Rattle.std.proofs.lemmas.Bool.{and_parts}
 use Rattle.iloc_spec_grammar.specs.Syntax.{Block, Text, Identifier, Fields, Unicode, Transform, before_zero}
 use Rattle.iloc_spec_grammar.specs.Meaning.{Extensions}
 use Rattle.iloc_spec_parts.specs.Orders.{IsExactOrder}
-use Rattle.iloc_spec_parts.specs.Hashes.{HashesByOrder, is_short_text, word_fed, words_fed, identifier_fed}
-use Rattle.iloc_spec_parts.specs.Hashes.{fields_fed}
-use Rattle.iloc_spec_parts.specs.Hashes.{unicode_fed, transform_fed, other_fed, extensions_fed, locale_fed}
+use Rattle.iloc_spec_parts.specs.Hashes.{
+  HashesByOrder,
+  is_short_text,
+  word_fed,
+  words_fed,
+  identifier_fed,
+  fields_fed,
+  unicode_fed,
+  transform_fed,
+  other_fed,
+  extensions_fed,
+  locale_fed,
+}
 
 -- A value that makes fewer writes than 2 ^ 64 is told by them, whatever follows, and so is what follows
 pub record Tells {X : Type 0} (fed : X → HashWrites) : Type 0 where
@@ -36,9 +43,7 @@ abbrev fed_as : Bool → Text → HashWrites
 fed_as b w = if b then padded w ∷ [] else u8 255 ++ (w ∷ [])
 
 padded_long : (w : Text) → is_short_text w ≡ true → length (padded w) ≡ 8
-padded_long w h =
-    let few : length w ≤ 8 = grind (arith, nat_tests) in
-    simp (length-append, length-replicate) (omega arith)
+padded_long w h = grind (arith, nat_tests, length-append, length-replicate)
 
 before_zeros : (n : ℕ) → before_zero (replicate n 0) ≡ []
 before_zeros zero = refl
@@ -53,8 +58,7 @@ before_padding (c ∷ w) n h =
     rw other (ap (λ l. c ∷ l) (before_padding w n parts.1))
 
 padded_back : (w : Text) → is_short_text w ≡ true → before_zero (padded w) ≡ w
-padded_back w h =
-    before_padding w (8 - length w) (and_parts (nat_le (length w) 8) (list_all (λ b. nat_lt 0 b) w) h).1
+padded_back w h = grind (arith, before_padding, and_parts)
 
 fed_told : (a b : Bool) (v w : Text) (us vs : HashWrites) → is_short_text v ≡ a → is_short_text w ≡ b →
     fed_as a v ++ us ≡ fed_as b w ++ vs → (v ≡ w) × (us ≡ vs)
@@ -108,18 +112,13 @@ module _ {X Y : Type 0} {f : X → HashWrites} {g : Y → HashWrites} (a : Tells
 -- a value that is kept as another
 pub through : {X Y : Type 0} (to : X → Y) (from : Y → X) → ((x : X) → from (to x) ≡ x) →
     {f : Y → HashWrites} → Tells f → Tells (λ x. f (to x))
-through to from back a = record {
-  some = λ x. a.some (to x);
-  told = λ x y us vs h k e.
-      let t = a.told (to x) (to y) us vs h k e in (sym (back x) ∙ ap from t.0 ∙ back y, t.1);
-}
+through to from back a = grind arith
 
 -- an optional part
 
 length_told : (m n : ℕ) → m < 2 ^ 64 → n < 2 ^ 64 → le_bytes 8 m ≡ le_bytes 8 n → m ≡ n
 unfolding le_bytes
-length_told m n h k e =
-    sym (from_le_bytes-to_le_bytes_8 m h) ∙ ap (from_le_bytes w64) e ∙ from_le_bytes-to_le_bytes_8 n k
+length_told m n h k e = grind (arith, from_le_bytes-to_le_bytes_8)
 
 module _ {X : Type 0} {f : X → HashWrites} (a : Tells f) where
   pub option_tells : Tells (option f)
@@ -142,8 +141,7 @@ module _ {X : Type 0} {f : X → HashWrites} (a : Tells f) where
 
   each_long : (xs : List X) → length xs ≤ length (flat_map f xs)
   each_long [] = omega arith
-  each_long (x ∷ xs) =
-      let s = a.some x in let l = length-append (f x) (flat_map f xs) in let m = each_long xs in omega arith
+  each_long (x ∷ xs) = grind (arith, length-append, each_long xs)
 
   each_told : (xs ys : List X) (us vs : HashWrites) → length xs ≡ length ys →
       length (flat_map f xs) < 2 ^ 64 → length (flat_map f ys) < 2 ^ 64 →
@@ -218,7 +216,7 @@ pub hashes_by : {X : Type 0} {R : X → X → Ordering} {fed : X → HashWrites}
 hashes_by {X} {R} {fed} o a = record {
   alike = λ x y e. ap fed ((o.exact x y).0 e);
   told_apart = λ x y h e.
-      (o.exact x y).1 (a.told x y [] [] h (subst (λ ws. length ws < 2 ^ 64) e h) (ap (λ ws. ws ++ []) e)).0;
+      (o.exact x y).1 (a.told x y [] [] h (rw e at h) (ap (λ ws. ws ++ []) e)).0;
 }
 
 pub ruleset told_parts = (

@@ -1,31 +1,96 @@
 -- Each block of an inline text has few words.
-use Rattle.std.proofs.Common.{◌≡◌, ℕ, ◌≤◌, Bool, true, false, cond, ◌==◌, List, [], ◌∷◌, ◌++◌, length, map}
-use Rattle.std.proofs.Common.{filter, refl, sym, ap, ◌∙◌, subst, arith, Option, Some, None, IfSome}
-use Rattle.std.proofs.Common.{option_map, true≢false, append-nil}
+use Rattle.std.proofs.Common.{
+  ◌≡◌,
+  ℕ,
+  ◌≤◌,
+  Bool,
+  true,
+  false,
+  cond,
+  ◌==◌,
+  List,
+  [],
+  ◌∷◌,
+  ◌++◌,
+  length,
+  map,
+  filter,
+  refl,
+  sym,
+  ap,
+  ◌∙◌,
+  arith,
+  Option,
+  Some,
+  None,
+  IfSome,
+  option_map,
+  true≢false,
+  append-nil,
+}
 use Rattle.std.specs.List.{AllByRecursion, list_any}
 use Rattle.std.specs.Ordering.{nat_cmp, eq_by_cmp}
 use Rattle.std.proofs.lemmas.Bool.{or_parts, eq-eqb, false_from_ne_true}
 use Rattle.std.proofs.lemmas.Bool.Decides.{nat_tests}
 use Rattle.std.proofs.lemmas.List.{length-map}
-use Rattle.iloc_spec_grammar.specs.Syntax.{LanguageLengths, Block, code_x, code_u, code_t, Text, pieces}
-use Rattle.iloc_spec_grammar.specs.Syntax.{AreLengths, PrivateSubtag, is_word, lower, word_cmp}
-use Rattle.iloc_spec_grammar.specs.Syntax.{Spelled, SpelledIdentifier, SpelledUnicode, SpelledTransform}
-use Rattle.iloc_spec_grammar.specs.Syntax.{Identifier, Transform, Fields, identifier_pieces, fields_pieces}
-use Rattle.iloc_spec_grammar.specs.Syntax.{unicode_pieces, transform_pieces, IsIdentifier, IsUnicode}
-use Rattle.iloc_spec_grammar.specs.Syntax.{AllDifferent, is_other_singleton, lower_singleton, head}
-use Rattle.iloc_spec_grammar.specs.Syntax.{tail_blocks}
-use Rattle.iloc_spec_grammar.specs.Meaning.{set_of, normal_identifier, normal_fields, normal_values}
-use Rattle.iloc_spec_grammar.specs.Meaning.{normal_unicode, normal_transform, after}
+use Rattle.iloc_spec_grammar.specs.Syntax.{
+  LanguageLengths,
+  Block,
+  code_x,
+  code_u,
+  code_t,
+  Text,
+  pieces,
+  AreLengths,
+  PrivateSubtag,
+  is_word,
+  lower,
+  word_cmp,
+  Spelled,
+  SpelledIdentifier,
+  SpelledUnicode,
+  SpelledTransform,
+  Transform,
+  Fields,
+  identifier_pieces,
+  fields_pieces,
+  unicode_pieces,
+  transform_pieces,
+  IsIdentifier,
+  IsUnicode,
+  AllDifferent,
+  is_other_singleton,
+  lower_singleton,
+  head,
+  tail_blocks,
+}
+use Rattle.iloc_spec_grammar.specs.Meaning.{
+  normal_identifier,
+  normal_values,
+  normal_unicode,
+  normal_transform,
+  after,
+}
 use Rattle.iloc_spec_grammar.specs.Reading.{passing, IdentifierFront}
 use Rattle.iloc_spec_grammar.proofs.IdentifierLaws.{one_identifier}
 use Rattle.iloc_spec_grammar.proofs.SetLaws.{length-set_of-different}
-use Rattle.iloc_spec_parts.specs.Inline.{IsInline, IsShortUnicode, IsShortTransform, IsShortBlock}
-use Rattle.iloc_spec_parts.specs.Inline.{IsInlineByBlocks, ReachesLongBlock}
+use Rattle.iloc_spec_parts.specs.Inline.{
+  IsInline,
+  IsShortUnicode,
+  IsShortTransform,
+  IsShortBlock,
+  IsInlineByBlocks,
+  ReachesLongBlock,
+}
 use Rattle.iloc_spec_parts.specs.Fronts.{FrontRead, absent, present, fields_front, before_bad_key}
 use Rattle.iloc_spec_parts.proofs.FrontLaws.{unicode_taken, keywords_taken}
 use Rattle.iloc_spec_parts.proofs.KeptLaws.{kept_all, passing_short, some_fields}
-use Rattle.iloc_spec_parts.proofs.ShortFronts.{IsShortByFronts, short_by_fronts, short_unicode_front}
-use Rattle.iloc_spec_parts.proofs.ShortFronts.{none_first}
+use Rattle.iloc_spec_parts.proofs.ShortFronts.{
+  IsShortByFronts,
+  short_by_fronts,
+  short_unicode_front,
+  none_first,
+}
 use Rattle.iloc_spec_parts.proofs.SmallShapes.{no_normal_fields}
 use Rattle.iloc_spec_parts.proofs.TransformLaws.{one_front, one_longest, front_language, transform_spelled}
 use Rattle.iloc_spec_grammar.proofs.SameMeaning.{none_after}
@@ -62,24 +127,21 @@ short_unicode u g a k v =
     let taken = unicode_taken u [] g refl in
     let keys = ap before_bad_key (keywords_taken u [] g refl) ∙ kept_all u.keywords g.keywords in
     (short_unicode_front (unicode_pieces u) [] refl).1 (record {
-      attributes = subst (λ (l : List Text). length (set_of (map lower l)) ≤ 4) (sym taken.attributes) a;
-      keys = subst (λ (fs : Fields). length (normal_fields fs) ≤ 1) (sym keys) k;
-      values = subst (AllByRecursion (λ f. length (normal_values f.1) ≤ 4)) (sym keys) v;
+      attributes = rw taken.attributes a;
+      keys = rw keys k;
+      values = rw keys v;
     })
 
 few_variants : (i : SpelledIdentifier) → AllDifferent word_cmp (map lower i.variants) →
     length (normal_identifier i).variants ≤ 4 → length i.variants ≤ 4
-few_variants i d h = subst (λ (n : ℕ). n ≤ 4)
-    (length-set_of-different (map lower i.variants) d ∙ length-map i.variants lower) h
+few_variants i d h = grind (arith, length-set_of-different, length-map)
 
 front_few : {T : ℕ → Bool} (ps : List Text) {o : Option SpelledIdentifier} {middle : List Text} →
     FrontRead T ps o middle → IfSome (option_map normal_identifier o) (λ i. length i.variants ≤ 4) →
     (i : SpelledIdentifier) (rest : List Text) → IdentifierFront T ps i rest → length i.variants ≤ 4
-front_few ps (absent e) h i rest f =
-    absurd (true≢false (sym (front_language ps i rest f.words f.spelled) ∙ e))
+front_few ps (absent e) h i rest f = grind (arith, true≢false, front_language)
 front_few ps (present {i = j} {rest = more} g k) h i rest f =
-    subst (λ (x : SpelledIdentifier). length x.variants ≤ 4) (sym (one_longest ps i j rest more f k).0)
-    (few_variants j g.different h)
+    rw (one_longest ps i j rest more f k).0 (few_variants j g.different h)
 
 short_identifier : {T : ℕ → Bool} (i : SpelledIdentifier) → IsIdentifier T i →
     length (normal_identifier i).variants ≤ 4 → IsShortTransform T (identifier_pieces i)
@@ -94,24 +156,19 @@ short_identifier {T = T} i g v =
     }) refl in
     let short : IsShortByFronts T (ps ++ []) = record {
       variants =
-          front_few (ps ++ []) r.id (subst (λ (o : Option Identifier). IfSome o (λ i. length i.variants ≤ 4))
-          (ap (λ (k : Transform). k.id) r.means) v);
+          front_few (ps ++ []) r.id (rw (← (ap (λ (k : Transform). k.id) r.means)) v);
       no_field = λ o middle f begins.
           some_fields middle begins (ap fields_front (one_front (ps ++ []) f r.id).1 ∙ r.spelled
           ∙ ap fields_pieces
           (no_normal_fields r.written.fields (sym (ap (λ (k : Transform). k.fields) r.means))));
     } in
-    subst (IsShortTransform T) (append-nil ps ∙ append-nil (identifier_pieces i))
-    (short_by_fronts (ps ++ []) short)
+    rw (append-nil ps ∙ append-nil (identifier_pieces i)) at (short_by_fronts (ps ++ []) short)
 
 short_transform : {T : ℕ → Bool} → AreLengths T → (o : Option SpelledIdentifier) → IfSome o (IsIdentifier T) →
     IfSome o (λ i. length (normal_identifier i).variants ≤ 4) → (fs : Fields) → fs ≡ [] →
     IsShortTransform T (transform_pieces {s = Spelled} (record { id = o; fields = fs }))
-short_transform table None g v fs e =
-    subst (IsShortTransform _) (ap fields_pieces (sym e)) (none_first table [] refl)
-short_transform table (Some i) g v fs e = subst (IsShortTransform _)
-    (sym (ap (λ fs. identifier_pieces i ++ fields_pieces fs) e ∙ append-nil (identifier_pieces i)))
-    (short_identifier i g v)
+short_transform table None g v fs e = grind (arith, none_first)
+short_transform table (Some i) g v fs e = grind (arith, append-nil, short_identifier)
 
 -- no block is another
 
@@ -121,13 +178,7 @@ Others bs =
 
 no_first_other : (b : Block) (bs : List Block) → Others (b ∷ bs) ≡ [] →
     (is_other_singleton (lower_singleton b) ≡ true → ⊥) × (Others bs ≡ [])
-no_first_other b bs e = at (is_other_singleton (lower_singleton b)) refl e
-  where
-    at : (t : Bool) → is_other_singleton (lower_singleton b) ≡ t →
-        cond t ((lower_singleton b, b.1) ∷ Others bs) (Others bs) ≡ [] →
-        (is_other_singleton (lower_singleton b) ≡ true → ⊥) × (Others bs ≡ [])
-    at true k e = absurd (cc)
-    at false k e = ((λ o. true≢false (sym o ∙ k)), e)
+no_first_other b bs e = grind (arith, true≢false)
 
 no_other : (bs : List Block) → Others bs ≡ [] →
     AllByRecursion (λ b. is_other_singleton (lower_singleton b) ≡ true → ⊥) bs
@@ -140,13 +191,13 @@ module _ (T : LanguageLengths) (table : AreLengths T) (t : Text) (h : IsInline T
   short_block : (b : Block) → after (lower_singleton b) (tail_blocks (pieces t)) ≡ b.1 →
       (is_other_singleton (lower_singleton b) ≡ true → ⊥) → IsShortBlock T b
   short_block b own none = record {
-    unicode = λ s. subst IsShortUnicode (sym h.spelled.unicode.1 ∙ at code_u s)
-        (short_unicode h.extensions.unicode h.spelled.unicode.0 h.attributes h.keywords h.values);
-    transform = λ s. subst (IsShortTransform T) (sym h.spelled.transform.1 ∙ at code_t s)
-        (short_transform table h.extensions.transform.id h.spelled.transform.0.id h.transform_variants
+    unicode = λ s. rw (sym h.spelled.unicode.1 ∙ at code_u s)
+        at (short_unicode h.extensions.unicode h.spelled.unicode.0 h.attributes h.keywords h.values);
+    transform = λ s. rw (sym h.spelled.transform.1 ∙ at code_t s)
+        at (short_transform table h.extensions.transform.id h.spelled.transform.0.id h.transform_variants
         h.extensions.transform.fields h.no_fields);
     private = λ s.
-        few b.1 (subst (λ (l : List Text). length l ≤ 4) (sym h.spelled.private.1 ∙ at code_x s) h.private);
+        few b.1 (rw (sym h.spelled.private.1 ∙ at code_x s) at h.private);
     other = λ o. absurd (none o);
   }
     where
@@ -165,11 +216,7 @@ module _ (T : LanguageLengths) (table : AreLengths T) (t : Text) (h : IsInline T
 
   identifier_few : (i : SpelledIdentifier) → IsIdentifier T i → head (pieces t) ≡ identifier_pieces i →
       length i.variants ≤ 4
-  identifier_few i g e =
-      let same =
-      one_identifier h.means.written i h.means.grammatical.words g.words (sym h.means.spelled ∙ e) in
-      few_variants i g.different (subst (λ (j : Identifier). length j.variants ≤ 4)
-      (h.means.means ∙ ap normal_identifier same) h.variants)
+  identifier_few i g e = grind (arith, one_identifier, few_variants)
 
 pub inline_by_blocks : (T : LanguageLengths) → AreLengths T → (t : Text) → IsInline T t → IsInlineByBlocks T t
 inline_by_blocks T table t h =
@@ -183,7 +230,7 @@ inline_by_blocks T table t h =
 pub none_long : {T : ℕ → Bool} {bs : List Block} → ReachesLongBlock T bs →
     AllByRecursion (IsShortBlock T) bs → ⊥
 none_long {T = T} (good, rest, c, ps, e, blocks, l, n, x) h =
-    x (at good (subst (AllByRecursion (IsShortBlock T)) e h))
+    x (at good (rw e at h))
   where
     at : (good : List Block) → AllByRecursion (IsShortBlock T) (good ++ ((c, ps) ∷ rest)) →
         IsShortBlock T (c, ps)

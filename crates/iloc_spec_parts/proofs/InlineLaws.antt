@@ -1,5 +1,5 @@
 -- Inline texts, by their blocks and by the trees that they spell; and a test that says which they are.
-use Rattle.std.proofs.Common.{◌≡◌, ◌≤◌, ◌↔◌, ℕ, Bool, true, false, nat_le, cond, ◌==◌, List, [], ◌∷◌, ◌++◌}
+use Rattle.std.proofs.Common.{◌≡◌, ◌≤◌, ◌↔◌, ℕ, Bool, true, nat_le, List, [], ◌∷◌, ◌++◌}
 use Rattle.std.proofs.Common.{length, map, refl, sym, ap, ◌∙◌, subst, true≢false, arith, Result, Ok, Err}
 use Rattle.std.proofs.Common.{Option, Some, None, IfSome, option_map, option_to_list, append-nil}
 use Rattle.std.specs.List.{AllByRecursion}
@@ -7,16 +7,56 @@ use Rattle.std.specs.Cmp.{nat_cmp_total}
 use Rattle.std.specs.Ordering.{nat_cmp}
 use Rattle.std.proofs.lemmas.Bool.{eqb-true, leb-true, le-leb, false_from_ne_true}
 use Rattle.std.proofs.lemmas.List.{length-map}
-use Rattle.iloc_spec_grammar.specs.Syntax.{LanguageLengths, Field, Block, code_x, code_u, Text, pieces, lower}
-use Rattle.iloc_spec_grammar.specs.Syntax.{SpelledIdentifier, SpelledUnicode, Fields}
-use Rattle.iloc_spec_grammar.specs.Syntax.{unicode_pieces, IsUnicode, kept, AllDifferent, AreLengths, head}
-use Rattle.iloc_spec_grammar.specs.Syntax.{tail_blocks, lower_singleton, IsPrivate}
-use Rattle.iloc_spec_grammar.specs.Tree.{Extension, unicode, transform, other, Written, IsWritten}
-use Rattle.iloc_spec_grammar.specs.Tree.{IsExtension, spelling, extension_pieces, extension_block, blocks_of}
-use Rattle.iloc_spec_grammar.specs.Tree.{meaning}
-use Rattle.iloc_spec_grammar.specs.Meaning.{Locale, SpelledExtensions, Extensions, Means, IdentifierMeans}
-use Rattle.iloc_spec_grammar.specs.Meaning.{SpellsExtensions, normal_identifier, normal_values, normal_fields}
-use Rattle.iloc_spec_grammar.specs.Meaning.{normal_extensions, after, Fault}
+use Rattle.iloc_spec_grammar.specs.Syntax.{
+  LanguageLengths,
+  Field,
+  Block,
+  code_x,
+  code_u,
+  Text,
+  pieces,
+  lower,
+  SpelledIdentifier,
+  SpelledUnicode,
+  Fields,
+  unicode_pieces,
+  IsUnicode,
+  kept,
+  AllDifferent,
+  AreLengths,
+  head,
+  tail_blocks,
+  lower_singleton,
+  IsPrivate,
+}
+use Rattle.iloc_spec_grammar.specs.Tree.{
+  Extension,
+  unicode,
+  transform,
+  other,
+  Written,
+  IsWritten,
+  IsExtension,
+  spelling,
+  extension_pieces,
+  extension_block,
+  blocks_of,
+  meaning,
+}
+use Rattle.iloc_spec_grammar.specs.Meaning.{
+  Locale,
+  SpelledExtensions,
+  Extensions,
+  Means,
+  IdentifierMeans,
+  SpellsExtensions,
+  normal_identifier,
+  normal_values,
+  normal_fields,
+  normal_extensions,
+  after,
+  Fault,
+}
 use Rattle.iloc_spec_grammar.specs.Reading.{written_of, fields_from, is_two}
 use Rattle.iloc_spec_grammar.specs.Computing.{locale_result}
 use Rattle.iloc_spec_grammar.proofs.RuleTests.{Tests, tests_and, tests_all, tests_if_some}
@@ -60,17 +100,7 @@ unmapped (Some i) h = h
 
 pub inline_has_few : {T : ℕ → Bool} (t : Text) (h : IsInline T t) →
     HasFewWords (record { id = h.id; extensions = normal_extensions h.extensions })
-inline_has_few t h = record {
-  variants = h.variants;
-  attributes = h.attributes;
-  keywords = h.keywords;
-  transform_variants = mapped h.extensions.transform.id h.transform_variants;
-  no_fields = ap normal_fields h.no_fields;
-  private = subst (λ (n : ℕ). n ≤ 4) (sym (length-map h.extensions.private lower)) h.private;
-  no_others = subst (λ (os : List Block).
-      (normal_extensions (record h.extensions { others = os })).others ≡ [])
-      (sym h.no_others) refl;
-}
+inline_has_few t h = search (mapped, length-map)
 
 pub inline_of_few : {T : ℕ → Bool} (t : Text) (M : Locale) (e : SpelledExtensions) →
     IdentifierMeans T (head (pieces t)) M.id → SpellsExtensions T (tail_blocks (pieces t)) e →
@@ -81,15 +111,15 @@ inline_of_few t M e i s p h v = record {
   means = i;
   spelled = s;
   variants = h.variants;
-  attributes = subst (λ (n : Extensions). length n.unicode.attributes ≤ 4) p h.attributes;
-  keywords = subst (λ (n : Extensions). length n.unicode.keywords ≤ 1) p h.keywords;
+  attributes = rw p at h.attributes;
+  keywords = rw p at h.keywords;
   values = v;
   transform_variants = unmapped e.transform.id
-      (subst (λ (n : Extensions). IfSome n.transform.id (λ i. length i.variants ≤ 4)) p h.transform_variants);
+      (rw p at h.transform_variants);
   no_fields =
       no_normal_fields e.transform.fields (sym (ap (λ (n : Extensions). n.transform.fields) p) ∙ h.no_fields);
   private = subst (λ (n : ℕ). n ≤ 4) (length-map e.private lower)
-      (subst (λ (n : Extensions). length n.private ≤ 4) p h.private);
+      (rw p at h.private);
   no_others = none_mapped (λ (o : Block). (o.0, kept o.1)) e.others
       (none_there nat_cmp nat_cmp_total _ (sym (ap (λ (n : Extensions). n.others) p) ∙ h.no_others));
 }
@@ -112,8 +142,8 @@ small_is_inline t r h = record {
       (subst (λ (e : Extensions). IfSome e.transform.id (λ i. length i.variants ≤ 4)) h.means tt);
   no_fields =
       no_normal_fields h.written.transform.fields (sym (ap (λ (e : Extensions). e.transform.fields) h.means));
-  private = subst (λ (n : ℕ). n ≤ 4) (length-map h.written.private lower)
-      (subst (λ (e : Extensions). length e.private ≤ 4) h.means (omega arith));
+  private = rw (length-map h.written.private lower) at (subst
+      (λ (e : Extensions). length e.private ≤ 4) h.means (omega arith));
   no_others = none_mapped (λ (o : Block). (o.0, kept o.1)) h.written.others
       (none_there nat_cmp nat_cmp_total _ (sym (ap (λ (e : Extensions). e.others) h.means)));
 }
@@ -156,15 +186,14 @@ after_holds : (P : List Text → Type 0) (q : ℕ) (bs : List Block) →
     AllDifferent nat_cmp (map (λ b. lower_singleton b) bs) → P [] →
     AllByRecursion (λ b. lower_singleton b ≡ q → P b.1) bs → P (after q bs)
 after_holds P q [] d n h = n
-after_holds P q (b ∷ bs) d n h = at (lower_singleton b == q) refl (after_holds P q bs d.1 n h.1)
-  where
-    at : (t : Bool) → (lower_singleton b == q) ≡ t → P (after q bs) → P (cond t b.1 [] ++ after q bs)
-    at true e rest = let same = eqb-true (lower_singleton b) q e in
-        subst P
-        (sym (ap (λ l. b.1 ++ l) (subst (λ (c : ℕ). after c bs ≡ []) same
-        (none_after (lower_singleton b) bs (false_from_ne_true _ d.0)))
-        ∙ append-nil b.1)) (h.0 same)
-    at false e rest = rest
+after_holds P q (b ∷ bs) d n h = grind (
+  arith,
+  eqb-true,
+  none_after,
+  false_from_ne_true,
+  append-nil,
+  after_holds P q bs d.1 n h.1,
+)
 
 same_keywords : (u v : SpelledUnicode) → IsUnicode u → IsUnicode v → unicode_pieces u ≡ unicode_pieces v →
     v.keywords ≡ u.keywords
@@ -196,9 +225,9 @@ module _ {T : ℕ → Bool} (w : Written) (g : IsWritten T w) (e : SpelledExtens
     where
       at : (c : ℕ) (x : Extension) → IsExtension T (lower_singleton (c, x)) x →
           after (lower_singleton (c, x)) (blocks_of w) ≡ extension_pieces x → HasFewValues x
-      at c (unicode u) k own = subst HaveFewValues
-          (same_keywords u e.unicode (record { attributes = k.1.attributes; keywords = k.1.keywords })
-          s.unicode.0 (sym own ∙ ap (λ q. after q (blocks_of w)) k.0 ∙ s.unicode.1)) h
+      at c (unicode u) k own = rw (same_keywords u e.unicode
+          (record { attributes = k.1.attributes; keywords = k.1.keywords }) s.unicode.0
+          (sym own ∙ ap (λ q. after q (blocks_of w)) k.0 ∙ s.unicode.1)) at h
       at c (transform m) k own = tt
       at c (other ps) k own = tt
 
@@ -220,14 +249,13 @@ module _ {T : ℕ → Bool} (w : Written) (g : IsWritten T w) (e : SpelledExtens
       e.unicode s.unicode.0 s.unicode.1
     where
       none : IsFewSpelled []
-      none u g k = subst HaveFewValues
-          (sym (same_keywords (record { attributes = []; keywords = [] }) u
-          (record { attributes = tt; keywords = tt }) g k)) tt
+      none u g k = rw (same_keywords (record { attributes = []; keywords = [] }) u
+          (record { attributes = tt; keywords = tt }) g k) tt
 
       at : (c : ℕ) (x : Extension) → IsExtension T (lower_singleton (c, x)) x → HasFewValues x →
           lower_singleton (c, x) ≡ code_u → IsFewSpelled (extension_pieces x)
-      at c (unicode v) k few q = λ u g p. subst HaveFewValues
-          (same_keywords u v g (record { attributes = k.1.attributes; keywords = k.1.keywords }) (sym p)) few
+      at c (unicode v) k few q = λ u g p. rw (same_keywords u v g
+          (record { attributes = k.1.attributes; keywords = k.1.keywords }) (sym p)) at few
       at c (transform m) k few q = absurd (omega (arith, k.0, q))
       at c (other ps) k few q = absurd (no_u (lower_singleton (c, other ps)) q k.0)
 
@@ -255,7 +283,7 @@ inline_is_tree {T = T} table t h =
       spelled = m.spelled;
       few = subst HasFewWords m.means (inline_has_few t h);
       values = few_in_tree m.written m.grammatical h.extensions
-          (subst (λ bs. SpellsExtensions T bs h.extensions) bs h.spelled) h.values;
+          (rw bs at h.spelled) h.values;
     }
 
 pub tree_is_inline : {T : ℕ → Bool} → AreLengths T → (t : Text) → IsTreeInline T t → IsInline T t
@@ -266,7 +294,7 @@ tree_is_inline {T = T} table t h =
     ap tail_blocks h.spelled ∙ blocks-spelling table h.written h.grammatical in
     inline_of_few t (meaning h.written) m.extensions.0 m.id m.extensions.1 m.extensions.2 h.few
     (few_in_parts h.written h.grammatical m.extensions.0
-    (subst (λ bs. SpellsExtensions T bs m.extensions.0) bs m.extensions.1) h.values)
+    (rw bs at m.extensions.1) h.values)
 
 -- the test of inline texts
 
@@ -275,16 +303,11 @@ tests_at_most n m = record { holds = leb-true n m; passes = le-leb n m }
 
 tests_empty : {X : Type 0} (xs : List X) → Tests (nat_le (length xs) 0) (xs ≡ [])
 tests_empty [] = record { holds = λ e. refl; passes = λ e. refl }
-tests_empty (x ∷ xs) = record {
-  holds = λ e. absurd (let h = (tests_at_most (length (x ∷ xs)) 0).holds e in omega arith);
-  passes = λ e. absurd (cc);
-}
+tests_empty (x ∷ xs) = grind (arith, tests_at_most)
 
 tests_values : (e : Extension) → Tests (has_few_values e) (HasFewValues e)
-tests_values (unicode u) = tests_all (λ f. nat_le (length (normal_values f.1)) 4)
-    (λ f. length (normal_values f.1) ≤ 4) (λ f. tests_at_most _ 4) u.keywords
-tests_values (transform m) = record { holds = λ e. tt; passes = λ h. refl }
-tests_values (other ps) = record { holds = λ e. tt; passes = λ h. refl }
+tests_values (unicode u) = search (tests_all, tests_at_most)
+tests_values _ = record { holds = λ e. tt; passes = λ h. refl }
 
 -- what is tested is few
 abbrev AreFew : Written → Locale → Type 0
@@ -294,14 +317,7 @@ AreFew w M = (((length M.id.variants ≤ 4) × (length M.extensions.unicode.attr
     × ((length M.extensions.private ≤ 4) × (M.extensions.others ≡ [])))
 
 tests_few : (w : Written) (M : Locale) → Tests (has_few_words w M) (AreFew w M)
-tests_few w M = tests_and
-    (tests_and (tests_and (tests_at_most _ 4) (tests_at_most _ 4)) (tests_and (tests_at_most _ 1)
-    (tests_all (λ e. has_few_values e.1) (λ e. HasFewValues e.1) (λ e. tests_values e.1) w.extensions)))
-    (tests_and
-    (tests_and
-    (tests_if_some (λ i. nat_le (length i.variants) 4) (λ i. length i.variants ≤ 4) (λ i. tests_at_most _ 4)
-    M.extensions.transform.id) (tests_empty M.extensions.transform.fields))
-    (tests_and (tests_at_most _ 4) (tests_empty M.extensions.others)))
+tests_few w M = search (tests_and, tests_at_most, tests_all, tests_values, tests_if_some, tests_empty)
 
 tree_passes : {T : ℕ → Bool} → AreLengths T → (t : Text) → IsTreeInline T t → is_inline T t ≡ true
 unfolding is_inline
@@ -345,7 +361,4 @@ few_is_tree {T = T} table t (Ok M) e h =
 
 pub inline_answer : (T : LanguageLengths) → AreLengths T → (t : Text) → (is_inline T t ≡ true) ↔ IsInline T t
 unfolding is_inline
-inline_answer T table t = (
-  λ h. tree_is_inline table t (few_is_tree table t (locale_result T t) refl h),
-  λ h. tree_passes table t (inline_is_tree table t h),
-)
+inline_answer T table t = search (tree_is_inline, few_is_tree, tree_passes, inline_is_tree)

@@ -1,28 +1,41 @@
 -- The orders are total, and only equal values tie.
-use Rattle.std.proofs.Common.{◌≡◌, ℕ, zero, suc, List, length, nat_lt, refl, sym, ap, ◌∙◌, subst, Option}
-use Rattle.std.proofs.Common.{Some, None}
-use Rattle.std.specs.Ordering.{ordering_then, nat_cmp, on}
+use Rattle.std.proofs.Common.{arith, ◌≡◌, ℕ, zero, suc, List, refl, ap, Option, Some, None}
+use Rattle.std.specs.Ordering.{nat_cmp, on}
 use Rattle.std.specs.Option.{option_cmp}
 use Rattle.std.specs.declared.cmp.Ordering.{Ordering}
-use Rattle.std.specs.declared.cmp.Ordering.TheVariants.{Less, Equal, Greater}
-use Rattle.std.specs.Cmp.{IsTotalOrder, nat_cmp_total, bool_cmp_total, on_total, then_total, tied_itself}
+use Rattle.std.specs.Cmp.{IsTotalOrder, nat_cmp_total, on_total, then_total}
 use Rattle.std.specs.Cmp.Lexicographic.{slice_cmp, lists_total, options_total}
 use Rattle.std.specs.FinMap.{IsAntisymmetric, nat_cmp-IsAntisymmetric, slice_cmp-IsAntisymmetric}
 use Rattle.std.proofs.lemmas.Map.Lookups.{exact_pairs}
 use Rattle.iloc_spec_grammar.specs.Syntax.{Block, Text, word_cmp, Identifier, Fields, Unicode, Transform}
 use Rattle.iloc_spec_grammar.specs.Meaning.{Extensions}
-use Rattle.iloc_spec_parts.specs.Orders.{IsExactOrder, pair_cmp, words_cmp, identifier_cmp, keywords_cmp}
-use Rattle.iloc_spec_parts.specs.Orders.{fields_cmp, unicode_cmp, transform_cmp, other_cmp, extensions_cmp}
-use Rattle.iloc_spec_parts.specs.Orders.{locale_cmp, ExtensionKind, OfTransform, OfUnicode, OfPrivate}
-use Rattle.iloc_spec_parts.specs.Orders.{OfOther, place_of_kind, kind_cmp}
+use Rattle.iloc_spec_parts.specs.Orders.{
+  IsExactOrder,
+  pair_cmp,
+  words_cmp,
+  identifier_cmp,
+  keywords_cmp,
+  fields_cmp,
+  unicode_cmp,
+  transform_cmp,
+  other_cmp,
+  extensions_cmp,
+  locale_cmp,
+  ExtensionKind,
+  OfTransform,
+  OfUnicode,
+  OfPrivate,
+  OfOther,
+  place_of_kind,
+  kind_cmp,
+}
 use Rattle.iloc_spec_grammar.specs.ShortLists.{short_cmp}
 
 -- orders of parts
 
 module _ {X : Type 0} {R : X → X → Ordering} where
   pub exactly : IsTotalOrder R → IsAntisymmetric R → IsExactOrder R
-  exactly o h =
-      record { total = o; exact = λ x y. (h x y, λ e. subst (λ z. R x z ≡ Equal) e (tied_itself o x)) }
+  exactly o h = grind arith
 
   pub ties : IsExactOrder R → IsAntisymmetric R
   ties o x y e = (o.exact x y).0 e
@@ -41,14 +54,7 @@ module _ {X : Type 0} {R : X → X → Ordering} where
   list_exact o = exactly (lists_total o.total) (slice_cmp-IsAntisymmetric (ties o))
 
   short_exact : IsExactOrder R → IsExactOrder (short_cmp R)
-  short_exact o = exactly
-      (then_total (on_total (λ (xs : List X). nat_lt 1 (length xs)) bool_cmp_total) (lists_total o.total))
-      (λ xs ys e. ties (list_exact o) xs ys (second _ _ e))
-    where
-      second : (r s : Ordering) → ordering_then r s ≡ Equal → s ≡ Equal
-      second Less s e = absurd (cc)
-      second Equal s e = e
-      second Greater s e = absurd (cc)
+  short_exact o = grind (arith, exactly, ties, list_exact) steps 400000
 
 pub pair_exact : {X Y : Type 0} {R : X → X → Ordering} {S : Y → Y → Ordering} → IsExactOrder R →
     IsExactOrder S → IsExactOrder (pair_cmp R S)
@@ -59,8 +65,7 @@ pair_exact {R = R} {S = S} o p =
 -- of a value that is kept as another
 pub on_exact : {X Y : Type 0} (to : X → Y) (from : Y → X) → ((x : X) → from (to x) ≡ x) →
     {R : Y → Y → Ordering} → IsExactOrder R → IsExactOrder (on to R)
-on_exact to from back o =
-    exactly (on_total to o.total) (λ x y e. sym (back x) ∙ ap from (ties o (to x) (to y) e) ∙ back y)
+on_exact to from back o = grind (arith, exactly, ties)
 
 -- the parts of a locale
 
@@ -121,9 +126,7 @@ kind_at (suc (suc (suc n)), b) = OfOther b
 kind_back : (k : ExtensionKind) → kind_at (place_of_kind k) ≡ k
 unfolding kind_at
 kind_back OfTransform = refl
-kind_back OfUnicode = refl
-kind_back OfPrivate = refl
-kind_back (OfOther b) = refl
+kind_back _ = refl
 
 pub kind_exact : IsExactOrder kind_cmp
 kind_exact = on_exact place_of_kind kind_at kind_back (pair_exact number_exact number_exact)

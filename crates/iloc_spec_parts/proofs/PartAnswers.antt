@@ -1,5 +1,5 @@
 -- The program reads a part where its reader does, and finds its fault.
-use Rattle.std.proofs.Common.{◌≡◌, ℕ, Bool, true, List, [], ◌∷◌, refl, Result, Ok, Err, MatchResult}
+use Rattle.std.proofs.Common.{arith, ◌≡◌, ℕ, Bool, true, List, [], ◌∷◌, refl, Result, Ok, Err, MatchResult}
 use Rattle.std.specs.Char.{to_ascii_lowercase}
 use Rattle.iloc_spec_grammar.specs.Meaning.{Fault}
 use Rattle.std.proofs.lemmas.Bool.{cond_both}
@@ -16,8 +16,7 @@ module _ {X : Type 0} (test : ℕ → Bool) (program : List Text → Result (X �
   after : (b : ℕ) (ps : List Text) → test (to_ascii_lowercase b) ≡ true →
       (o : Result (X × List Text) Fault) → MatchResult o (λ r. R ps r.0 r.1) (F ps) →
       IsAnswered ((b ∷ []) ∷ ps) (with_singleton (to_ascii_lowercase b) o)
-  after b ps e (Ok r) m =
-      record { byte = b; after = ps; spelled = refl; singleton = refl; passes = e; reads = m }
+  after b ps e (Ok r) m = grind arith
   after b ps e (Err f) m = after_singleton refl e m
 
   pub part_answer : (ps : List Text) → IsAnswered ps (part_result test program ps)

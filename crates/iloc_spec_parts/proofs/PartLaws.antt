@@ -1,12 +1,11 @@
 -- Parts with their singletons.
-use Rattle.std.proofs.Common.{◌≡◌, ℕ, Bool, List, refl, sym, ap, ◌∙◌, subst, true≢false, Result}
-use Rattle.std.specs.Char.{to_ascii_lowercase}
+use Rattle.std.proofs.Common.{arith, ◌≡◌, ℕ, Bool, List, refl, sym, ◌∙◌, true≢false, Result}
 use Rattle.iloc_spec_grammar.specs.Meaning.{Fault}
 use Rattle.iloc_spec_parts.specs.Readers.{IsReader}
 use Rattle.iloc_spec_parts.specs.PartComputing.{part_result}
 use Rattle.iloc_spec_parts.proofs.ReaderLaws.{reader_of, Answers}
 use Rattle.iloc_spec_parts.proofs.PartAnswers.{part_answer}
-use Rattle.iloc_spec_parts.specs.Parts.{begins_part, PartRead, PartFault, no_singleton, after_singleton}
+use Rattle.iloc_spec_parts.specs.Parts.{PartRead, PartFault, no_singleton, after_singleton}
 use Rattle.iloc_spec_grammar.specs.Syntax.{Text}
 
 -- A singleton before a reader makes a reader.
@@ -14,29 +13,19 @@ module _ {X : Type 0} (test : ℕ → Bool) (R : List Text → X → List Text �
     (F : List Text → Fault → Type 0) (reader : IsReader R F) where
   one : (ps : List Text) (v w : ℕ × X) (rest more : List Text) → PartRead test R ps v rest →
       PartRead test R ps w more → (v ≡ w) × (rest ≡ more)
-  one ps v w rest more a b =
-      let bytes : a.byte ≡ b.byte = cc in
-      let afters : a.after ≡ b.after = cc in
-      let parts = reader.one b.after v.1 w.1 rest more
-      (subst (λ (l : List Text). R l v.1 rest) afters a.reads) b.reads in
-      (λ i. ((a.singleton ∙ ap to_ascii_lowercase bytes ∙ sym b.singleton) i, parts.0 i), parts.1)
+  one ps v w rest more a b = grind arith
 
   apart : (ps : List Text) (v : ℕ × X) (rest : List Text) (f : Fault) → PartRead test R ps v rest →
       PartFault test F ps f → ⊥
-  apart ps v rest f h (no_singleton n) =
-      true≢false (sym (ap (begins_part test) h.spelled ∙ ap test (sym h.singleton) ∙ h.passes) ∙ n)
-  apart ps v rest f h (after_singleton {b = b} {after = after} e p x) =
-      let afters : h.after ≡ after = cc in
-      reader.apart after v.1 rest f (subst (λ (l : List Text). R l v.1 rest) afters h.reads) x
+  apart ps v rest f h (no_singleton n) = grind (arith, true≢false)
+  apart ps v rest f h (after_singleton {b = b} {after = after} e p x) = grind arith
 
   one_fault : (ps : List Text) (f g : Fault) → PartFault test F ps f → PartFault test F ps g → f ≡ g
   one_fault ps f g (no_singleton n) (no_singleton m) = refl
   one_fault ps f g (no_singleton n) (after_singleton e p x) = absurd (true≢false (sym p ∙ n))
   one_fault ps f g (after_singleton e p x) (no_singleton n) = absurd (true≢false (sym p ∙ n))
   one_fault ps f g (after_singleton {b = b} {after = after} e p x)
-      (after_singleton {b = c} {after = later} k q y) =
-      let afters : after ≡ later = cc in
-      reader.one_fault later f g (subst (λ (l : List Text). F l f) afters x) y
+      (after_singleton {b = c} {after = later} k q y) = grind arith
 
   pub part_reader : (program : List Text → Result (X × List Text) Fault) → Answers R F program →
       IsReader (PartRead test R) (PartFault test F)

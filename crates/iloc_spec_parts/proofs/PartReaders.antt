@@ -1,13 +1,36 @@
 -- The readers of single parts with their singletons.
-use Rattle.iloc_spec_grammar.specs.Syntax.{LanguageLengths, code_x, code_u, code_t, AreLengths}
-use Rattle.iloc_spec_grammar.specs.Syntax.{is_other_singleton}
+use Rattle.iloc_spec_grammar.specs.Syntax.{
+  LanguageLengths,
+  code_x,
+  code_u,
+  code_t,
+  AreLengths,
+  is_other_singleton,
+}
 use Rattle.iloc_spec_parts.specs.Readers.{IsReader}
-use Rattle.iloc_spec_parts.specs.Fronts.{UnicodeRead, UnicodeFault, TransformRead, TransformFault, OtherRead}
-use Rattle.iloc_spec_parts.specs.Fronts.{OtherFault, PrivateRead, PrivateFault, unicode_result}
-use Rattle.iloc_spec_parts.specs.Fronts.{transform_result, other_result, private_result}
+use Rattle.iloc_spec_parts.specs.Fronts.{
+  UnicodeRead,
+  UnicodeFault,
+  TransformRead,
+  TransformFault,
+  OtherRead,
+  OtherFault,
+  PrivateRead,
+  PrivateFault,
+  unicode_result,
+  transform_result,
+  other_result,
+  private_result,
+}
 use Rattle.iloc_spec_parts.specs.Parts.{PartRead, PartFault, is_letter}
-use Rattle.iloc_spec_parts.proofs.FrontLaws.{unicode_reader, unicode_answer, other_reader, other_answer}
-use Rattle.iloc_spec_parts.proofs.FrontLaws.{private_reader, private_answer}
+use Rattle.iloc_spec_parts.proofs.FrontLaws.{
+  unicode_reader,
+  unicode_answer,
+  other_reader,
+  other_answer,
+  private_reader,
+  private_answer,
+}
 use Rattle.iloc_spec_parts.proofs.TransformLaws.{transform_reader, transform_answer}
 use Rattle.iloc_spec_parts.proofs.PartLaws.{part_reader}
 

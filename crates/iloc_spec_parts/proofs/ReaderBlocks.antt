@@ -1,19 +1,46 @@
 -- A reader reads the whole of a block exactly where the block means what is read.
-use Rattle.std.proofs.Common.{◌≡◌, ◌≢◌, ◌⊎◌, inl, inr, ◌↔◌, ℕ, cond, ◌==◌, List, [], ◌∷◌, refl, sym, ap}
-use Rattle.std.proofs.Common.{◌∙◌, subst, arith, Option, Some, None, IfSome}
+use Rattle.std.proofs.Common.{◌≡◌, ◌≢◌, ◌⊎◌, inl, inr, ◌↔◌, ℕ, List, [], ◌∷◌, refl, sym}
+use Rattle.std.proofs.Common.{◌∙◌, arith, Option, Some, None, IfSome}
 use Rattle.std.specs.List.{AllByRecursion}
-use Rattle.std.specs.Char.{to_ascii_lowercase}
-use Rattle.std.specs.Ordering.{nat_cmp, eq_by_cmp}
+use Rattle.std.specs.Ordering.{nat_cmp}
 use Rattle.std.specs.FinMap.{find}
 use Rattle.std.proofs.lemmas.Bool.{cond_both, eqb-true}
-use Rattle.iloc_spec_grammar.specs.Syntax.{LanguageLengths, Block, code_x, code_u, code_t, Text, pieces}
-use Rattle.iloc_spec_grammar.specs.Syntax.{AreLengths, Unicode, Transform, kept, is_other_singleton}
-use Rattle.iloc_spec_grammar.specs.Syntax.{lower_singleton, is_one_byte, front, blocks, tail_blocks}
-use Rattle.iloc_spec_grammar.specs.Meaning.{Locale, Extensions, Means, no_unicode, no_transform, Fault}
+use Rattle.iloc_spec_grammar.specs.Syntax.{
+  LanguageLengths,
+  Block,
+  code_x,
+  code_u,
+  code_t,
+  Text,
+  AreLengths,
+  Unicode,
+  Transform,
+  kept,
+  lower_singleton,
+  front,
+  blocks,
+  tail_blocks,
+}
+use Rattle.iloc_spec_grammar.specs.Meaning.{
+  Locale,
+  Extensions,
+  Means,
+  no_unicode,
+  no_transform,
+  Fault,
+  other_blocks,
+}
 use Rattle.iloc_spec_grammar.specs.Tree.{by_singleton}
-use Rattle.iloc_spec_grammar.specs.ByBlocks.{UnicodeMeans, TransformMeans, OtherMeans, Rules, grammar_rules}
-use Rattle.iloc_spec_grammar.specs.ByBlocks.{PartIs, BlocksGive, MeansBy}
-use Rattle.iloc_spec_grammar.specs.Meaning.{other_blocks}
+use Rattle.iloc_spec_grammar.specs.ByBlocks.{
+  UnicodeMeans,
+  TransformMeans,
+  OtherMeans,
+  Rules,
+  grammar_rules,
+  PartIs,
+  BlocksGive,
+  MeansBy,
+}
 use Rattle.iloc_spec_grammar.specs.Reading.{from_block}
 use Rattle.iloc_spec_grammar.proofs.ValuesLaws.{all_weaker, all_both}
 use Rattle.iloc_spec_grammar.proofs.SameMeaning.{means_by_blocks, blocks_mean}
@@ -32,11 +59,7 @@ pub record IsClosed (ps : List Text) : Type 0 where
 
 closed_front : (ps : List Text) → IsClosed (front ps)
 closed_front [] = record { whole = refl; ended = refl }
-closed_front (p ∷ ps) =
-    cond_both (is_one_byte p) _ _ IsClosed (λ e. record { whole = refl; ended = refl }) (λ e. record {
-      whole = ap (λ b. cond b [] (p ∷ front (front ps))) e ∙ ap (λ qs. p ∷ qs) (closed_front ps).whole;
-      ended = ap (λ b. cond b (p ∷ front ps) (from_block (front ps))) e ∙ (closed_front ps).ended;
-    })
+closed_front (p ∷ ps) = grind (arith, cond_both, closed_front ps)
 
 abbrev IsXOrClosed : Block → Type 0
 IsXOrClosed b = (lower_singleton b ≡ code_x) ⊎ IsClosed b.1
@@ -44,8 +67,7 @@ IsXOrClosed b = (lower_singleton b ≡ code_x) ⊎ IsClosed b.1
 blocks_closed : (ps : List Text) → AllByRecursion IsXOrClosed (blocks ps)
 blocks_closed [] = tt
 blocks_closed ([] ∷ ps) = blocks_closed ps
-blocks_closed ((c ∷ []) ∷ ps) = cond_both (to_ascii_lowercase c == code_x) _ _ (AllByRecursion IsXOrClosed)
-    (λ e. (inl (eqb-true _ _ e), tt)) (λ e. (inr (closed_front ps), blocks_closed ps))
+blocks_closed ((c ∷ []) ∷ ps) = grind (arith, cond_both, eqb-true, closed_front, blocks_closed ps)
 blocks_closed ((c ∷ d ∷ p) ∷ ps) = blocks_closed ps
 
 tail_closed : (ps : List Text) → AllByRecursion IsXOrClosed (tail_blocks ps)
@@ -59,20 +81,12 @@ closed_of q n c ps e (inr h) = h
 found_closed : (q : ℕ) → q ≢ code_x → (bs : List Block) → AllByRecursion IsXOrClosed bs →
     IfSome (find nat_cmp q (by_singleton bs)) IsClosed
 found_closed q n [] h = tt
-found_closed q n (b ∷ bs) h = cond_both (eq_by_cmp nat_cmp q (lower_singleton b)) _ _ (λ o. IfSome o IsClosed)
-    (λ e. closed_of q n (lower_singleton b) b.1 (tied q (lower_singleton b) e) h.0)
-    (λ e. found_closed q n bs h.1)
+found_closed q n (b ∷ bs) h = grind (arith, cond_both, closed_of, tied, found_closed q n bs h.1)
 
 others_closed : (bs : List Block) → AllByRecursion IsXOrClosed bs →
     AllByRecursion (λ b. IsClosed b.1) (other_blocks bs)
 others_closed [] h = tt
-others_closed (b ∷ bs) h =
-    cond_both (is_other_singleton (lower_singleton b)) _ _ (AllByRecursion (λ b. IsClosed b.1))
-    (λ e. (
-      closed_of (lower_singleton b) (λ x. no_x (lower_singleton b) x e) (lower_singleton b) b.1 refl h.0,
-      others_closed bs h.1,
-    ))
-    (λ e. others_closed bs h.1)
+others_closed (b ∷ bs) h = grind (arith, cond_both, closed_of, no_x, others_closed bs h.1)
 
 -- a reader that agrees with the rule of its blocks
 
@@ -80,11 +94,10 @@ module _ {X : Type 0} (R : List Text → X → List Text → Type 0) (F : List T
     (B : List Text → X → Type 0) (a : AgreesWithBlocks R F B) (ps : List Text) (v : X)
     (c : IsClosed ps) where
   pub block_read : B ps v → R ps v []
-  block_read h =
-      subst (R ps v) c.ended (a.block ps v (subst (λ (qs : List Text). B qs v) (sym c.whole) h))
+  block_read h = grind arith
 
   pub read_block : R ps v [] → B ps v
-  read_block h = subst (λ (qs : List Text). B qs v) c.whole (a.whole ps v [] h refl).0
+  read_block h = grind arith
 
 -- rules by which the blocks of another give the same
 
@@ -141,13 +154,7 @@ module _ (T : LanguageLengths) (table : AreLengths T) where
   }
 
   all_carried : {R S : Rules} → Carries R S → (t : Text) (M : Locale) → MeansBy R T t M → MeansBy S T t M
-  all_carried c t M m = record {
-    id = m.id;
-    extensions = carried c (tail_blocks (pieces t)) M.extensions (tail_closed (pieces t)) m.extensions;
-  }
+  all_carried c t M m = search (carried, tail_closed)
 
   pub by_readers : (t : Text) (M : Locale) → Means T t M ↔ MeansByReaders T t M
-  by_readers t M = (
-    λ m. all_carried read_by_grammar t M (means_by_blocks t M m),
-    λ m. blocks_mean t M (all_carried grammar_by_reading t M m),
-  )
+  by_readers t M = search (all_carried, read_by_grammar, means_by_blocks, blocks_mean, grammar_by_reading)

@@ -1,6 +1,22 @@
 -- What follows for every reader of a front.
-use Rattle.std.proofs.Common.{◌≡◌, ◌⊎◌, inl, inr, true, List, [], ◌∷◌, ◌++◌, refl, sym, ap, ◌∙◌}
-use Rattle.std.proofs.Common.{true≢false, Result, Ok, Err, MatchResult}
+use Rattle.std.proofs.Common.{
+  arith,
+  ◌≡◌,
+  ◌⊎◌,
+  inl,
+  inr,
+  true,
+  List,
+  [],
+  ◌∷◌,
+  ◌++◌,
+  refl,
+  true≢false,
+  Result,
+  Ok,
+  Err,
+  MatchResult,
+}
 use Rattle.std.specs.List.{AllByRecursion}
 use Rattle.iloc_spec_grammar.specs.Meaning.{Fault}
 use Rattle.iloc_spec_grammar.specs.Syntax.{Text, front}
@@ -14,8 +30,7 @@ pub until_block : (xs rest : List Text) → AllByRecursion IsLong xs → starts_
     (front (xs ++ rest) ≡ xs) × (from_block (xs ++ rest) ≡ rest)
 until_block [] [] h s = (refl, refl)
 until_block [] (p ∷ ps) h s = (rw s refl, rw s refl)
-until_block (x ∷ xs) rest h s =
-    let r = until_block xs rest h.1 s in (rw h.0 (ap (λ l. x ∷ l) r.0), rw h.0 r.1)
+until_block (x ∷ xs) rest h s = search (until_block xs rest h.1 s)
 
 module _ {X : Type 0} (R : List Text → X → List Text → Type 0)
     (F : List Text → Fault → Type 0) where
@@ -55,10 +70,4 @@ module _ {X : Type 0} (R : List Text → X → List Text → Type 0)
     -- a reader that reads what blocks mean reads nothing else of them
     pub agreeing : IsReader R F → IsWhole →
         ((ps : List Text) (v : X) → B (front ps) v → R ps v (from_block ps)) → AgreesWithBlocks R F B
-    agreeing reader whole block = record {
-      whole = whole;
-      block = block;
-      left_over = λ ps v w rest r s b. true≢false (sym (from_block_starts ps)
-          ∙ ap starts_block (sym (reader.one ps v w rest (from_block ps) r (block ps w b)).1) ∙ s);
-      refused = λ ps f w x b. reader.apart ps w (from_block ps) f (block ps w b) x;
-    }
+    agreeing reader whole block = grind (arith, true≢false, from_block_starts)

@@ -2,32 +2,64 @@
 -- of an identifier, and by the singletons that were seen.
 use Rattle.std.proofs.Common.{◌≡◌, ◌↔◌, ℕ, ◌≤◌, Bool, true, false, cond, ◌||◌, List, [], ◌∷◌, ◌++◌}
 use Rattle.std.proofs.Common.{length, map, refl, sym, ap, ◌∙◌, subst, arith, Option, true≢false}
-use Rattle.std.specs.List.{AllByRecursion}
 use Rattle.std.proofs.lemmas.Bool.{cond_both, false_from_ne_true, eqb-true, or_parts, both_ways, or_from}
-use Rattle.iloc_spec_grammar.specs.Syntax.{LanguageLengths, Block, Text, Kind, Language, Script, Region}
-use Rattle.iloc_spec_grammar.specs.Syntax.{Variant, Attribute, is_word}
-use Rattle.iloc_spec_grammar.specs.Syntax.{IsWord, AreLengths, lower, word_cmp, SpelledIdentifier, Fields}
-use Rattle.iloc_spec_grammar.specs.Syntax.{lower_singleton, first_piece}
+use Rattle.iloc_spec_grammar.specs.Syntax.{
+  LanguageLengths,
+  Block,
+  Text,
+  Kind,
+  Language,
+  Attribute,
+  is_word,
+  IsWord,
+  AreLengths,
+  lower,
+  word_cmp,
+  SpelledIdentifier,
+  lower_singleton,
+  first_piece,
+}
 use Rattle.iloc_spec_grammar.specs.Tree.{HasSingleton, IsNew, IsBlock}
-use Rattle.iloc_spec_grammar.specs.Meaning.{set_of, normal_fields, normal_values, RepeatsVariant, IsSecond}
-use Rattle.iloc_spec_grammar.specs.Reading.{passing, past, skip_first, EndsBefore, starts_block}
-use Rattle.iloc_spec_grammar.specs.Reading.{is_two, after_script, after_region, front_of, after_front}
-use Rattle.iloc_spec_grammar.specs.Reading.{IdentifierFront, fields_from}
+use Rattle.iloc_spec_grammar.specs.Meaning.{RepeatsVariant, IsSecond}
+use Rattle.iloc_spec_grammar.specs.Reading.{
+  EndsBefore,
+  starts_block,
+  is_two,
+  after_region,
+  front_of,
+  after_front,
+  IdentifierFront,
+}
 use Rattle.iloc_spec_grammar.specs.Computing.{all_different}
 use Rattle.iloc_spec_grammar.proofs.WordsLaws.{length-language, length-transform_key}
 use Rattle.iloc_spec_grammar.proofs.FaultLaws.{AreGood}
 use Rattle.iloc_spec_grammar.proofs.Readings.{IsLong, long_script, long_region, long_variant, long_attribute}
-use Rattle.iloc_spec_grammar.proofs.ReadingLaws.{front_is_front, skip_while-append, skip_first-append}
-use Rattle.iloc_spec_grammar.proofs.ReadingLaws.{keep_while-append}
+use Rattle.iloc_spec_grammar.proofs.ReadingLaws.{
+  front_is_front,
+  skip_while-append,
+  skip_first-append,
+  keep_while-append,
+}
 use Rattle.iloc_spec_grammar.proofs.RuleTests.{tests_different, tests_not}
-use Rattle.iloc_spec_grammar.proofs.SameMeaning.{good_blocks, blocks_spelled}
-use Rattle.iloc_spec_parts.specs.Fronts.{attributes_read, after_attributes, is_keyword_piece, keywords_front}
-use Rattle.iloc_spec_parts.specs.Fronts.{keywords_kept, before_bad_key, FrontRead, absent, present}
-use Rattle.iloc_spec_parts.specs.Fronts.{BeginsField}
+use Rattle.iloc_spec_grammar.proofs.SameMeaning.{blocks_spelled}
+use Rattle.iloc_spec_parts.specs.Fronts.{
+  is_keyword_piece,
+  keywords_front,
+  FrontRead,
+  absent,
+  present,
+  BeginsField,
+}
 use Rattle.iloc_spec_parts.specs.Inline.{IsShortUnicode, IsShortTransform, IsShortBlock, ReachesLongBlock}
 use Rattle.iloc_spec_parts.proofs.FrontLaws.{block_ends, not_attribute}
-use Rattle.iloc_spec_parts.proofs.TransformLaws.{front_language, one_longest, no_empty_language, no_key_empty}
-use Rattle.iloc_spec_parts.proofs.TransformLaws.{read_no_repeats, repeats_in_block}
+use Rattle.iloc_spec_parts.proofs.TransformLaws.{
+  front_language,
+  one_longest,
+  no_empty_language,
+  no_key_empty,
+  read_no_repeats,
+  repeats_in_block,
+}
 
 -- a front that ends before the rest
 
@@ -35,7 +67,7 @@ use Rattle.iloc_spec_parts.proofs.TransformLaws.{read_no_repeats, repeats_in_blo
 long_ends : (k : Kind) → ((p : Text) → IsWord k p → IsLong p) → (rest : List Text) →
     starts_block rest ≡ true → EndsBefore (is_word k) rest
 long_ends k long [] s = tt
-long_ends k long (p ∷ ps) s = false_from_ne_true (is_word k p) (λ w. true≢false (sym s ∙ long p w))
+long_ends k long (p ∷ ps) s = grind (arith, false_from_ne_true, true≢false)
 
 -- after `u`
 
@@ -48,26 +80,13 @@ keywords_before (p ∷ ps) rest s = ap (λ l. cond (is_two p) l [])
 
 pub short_unicode_front : (ps rest : List Text) → starts_block rest ≡ true →
     IsShortUnicode ps ↔ IsShortUnicode (ps ++ rest)
-short_unicode_front ps rest s = (
-  λ h. record {
-    attributes = subst (λ (l : List Text). length l ≤ 4) (sym attributes) h.attributes;
-    keys = subst (λ (fs : Fields). length (normal_fields fs) ≤ 1) (sym keywords) h.keys;
-    values = subst (AllByRecursion (λ f. length (normal_values f.1) ≤ 4)) (sym keywords) h.values;
-  },
-  λ h. record {
-    attributes = subst (λ (l : List Text). length l ≤ 4) attributes h.attributes;
-    keys = subst (λ (fs : Fields). length (normal_fields fs) ≤ 1) keywords h.keys;
-    values = subst (AllByRecursion (λ f. length (normal_values f.1) ≤ 4)) keywords h.values;
-  },
+short_unicode_front ps rest s = grind (
+  arith,
+  keep_while-append,
+  block_ends,
+  skip_while-append,
+  keywords_before,
 )
-  where
-    attributes : attributes_read (ps ++ rest) ≡ attributes_read ps
-    attributes = ap (λ l. set_of (map lower l))
-        (keep_while-append (is_word Attribute) ps rest (block_ends rest s).attribute)
-
-    keywords : keywords_kept (after_attributes (ps ++ rest)) ≡ keywords_kept (after_attributes ps)
-    keywords = ap keywords_kept (skip_while-append (is_word Attribute) ps rest (block_ends rest s).attribute)
-        ∙ ap (λ l. before_bad_key (fields_from is_two l)) (keywords_before (after_attributes ps) rest s)
 
 -- after `t`
 
@@ -77,26 +96,21 @@ after_identifier T ps = cond (is_word (Language T) (first_piece ps)) (after_fron
 
 region_before : (p : Text) (ps rest : List Text) → starts_block rest ≡ true →
     after_region (p ∷ (ps ++ rest)) ≡ after_region (p ∷ ps) ++ rest
-region_before p ps rest s = ap (skip_first (is_word Region))
-    (skip_first-append (is_word Script) ps rest (long_ends Script long_script rest s))
-    ∙ skip_first-append (is_word Region) (after_script (p ∷ ps)) rest (long_ends Region long_region rest s)
+region_before p ps rest s = simp (skip_first-append, long_ends, long_script, long_region)
 
 variants_before : (p : Text) (ps rest : List Text) → starts_block rest ≡ true →
     (front_of (p ∷ (ps ++ rest))).variants ≡ (front_of (p ∷ ps)).variants
 unfolding front_of
-variants_before p ps rest s = ap (passing (is_word Variant)) (region_before p ps rest s)
-    ∙ keep_while-append (is_word Variant) (after_region (p ∷ ps)) rest (long_ends Variant long_variant rest s)
+variants_before p ps rest s = simp (region_before, keep_while-append, long_ends, long_variant)
 
 after_before : (p : Text) (ps rest : List Text) → starts_block rest ≡ true →
     after_front (p ∷ (ps ++ rest)) ≡ after_front (p ∷ ps) ++ rest
 unfolding after_front
-after_before p ps rest s = ap (past (is_word Variant)) (region_before p ps rest s)
-    ∙ skip_while-append (is_word Variant) (after_region (p ∷ ps)) rest (long_ends Variant long_variant rest s)
+after_before p ps rest s = simp (region_before, skip_while-append, long_ends, long_variant)
 
 no_first_key : (rest : List Text) → starts_block rest ≡ true → BeginsField rest → ⊥
 no_first_key [] s b = true≢false (sym b.0 ∙ no_key_empty)
-no_first_key (p ∷ ps) s b =
-    let l = length-transform_key p b.0 in let one = eqb-true (length p) 1 s in absurd (omega arith)
+no_first_key (p ∷ ps) s b = grind (arith, length-transform_key, eqb-true)
 
 no_first_value : (rest : List Text) → starts_block rest ≡ true → IsWord Attribute (first_piece rest) → ⊥
 no_first_value [] s w = true≢false (sym w ∙ not_attribute [] (omega arith))
@@ -112,42 +126,34 @@ begins_before (k ∷ v ∷ ps) rest s = (λ b. b, λ b. b)
 no_first_language : {T : ℕ → Bool} → AreLengths T → (rest : List Text) → starts_block rest ≡ true →
     is_word (Language T) (first_piece rest) ≡ false
 no_first_language table [] s = no_empty_language table
-no_first_language {T = T} table (p ∷ ps) s =
-    false_from_ne_true _ (λ w. let l = table.least _ (length-language T p w) in
-    let one = eqb-true (length p) 1 s in absurd (omega arith))
+no_first_language {T = T} table (p ∷ ps) s = grind (arith, false_from_ne_true, length-language, eqb-true)
 
 pub none_first : {T : ℕ → Bool} → AreLengths T → (rest : List Text) → starts_block rest ≡ true →
     IsShortTransform T rest
-none_first {T = T} table rest s =
-    let none = no_first_language table rest s in record {
-      variants = λ l. absurd (true≢false (sym l ∙ none));
-      no_field =
-          λ r b. no_first_key rest s (subst (λ t. BeginsField (cond t (after_front rest) rest)) none b);
-    }
+none_first {T = T} table rest s = grind (arith, no_first_language, true≢false, no_first_key)
 
 field_before : (T : LanguageLengths) (p : Text) (ps rest : List Text) → starts_block rest ≡ true →
     BeginsField (after_identifier T (p ∷ ps)) ↔ BeginsField (after_identifier T (p ∷ (ps ++ rest)))
 field_before T p ps rest s =
     elim (is_word (Language T) p) as (λ t. BeginsField (cond t (after_front (p ∷ ps)) (p ∷ ps))
     ↔ BeginsField (cond t (after_front (p ∷ (ps ++ rest))) (p ∷ (ps ++ rest)))) [
-      | true ↦ subst (λ (l : List Text). BeginsField (after_front (p ∷ ps)) ↔ BeginsField l)
-          (sym (after_before p ps rest s)) (begins_before (after_front (p ∷ ps)) rest s)
+      | true ↦ rw (after_before p ps rest s) (begins_before (after_front (p ∷ ps)) rest s)
       | false ↦ begins_before (p ∷ ps) rest s
     ]
 
 pub short_transform_front : {T : ℕ → Bool} → AreLengths T → (ps rest : List Text) →
     starts_block rest ≡ true → IsShortTransform T ps ↔ IsShortTransform T (ps ++ rest)
-short_transform_front table [] rest s = (λ h. none_first table rest s, λ h. none_first table [] refl)
+short_transform_front table [] rest s = search none_first
 short_transform_front {T = T} table (p ∷ ps) rest s =
     let few = variants_before p ps rest s in
     let repeats = repeats_in_block table (p ∷ ps) rest s in
     let field = field_before T p ps rest s in (
       λ h. record {
-        variants = λ l. subst (λ (vs : List Text). length vs ≤ 4) (sym few) (h.variants l);
+        variants = λ l. rw few (h.variants l);
         no_field = λ n b. h.no_field (λ r. n (repeats.0 r)) (field.1 b);
       },
       λ h. record {
-        variants = λ l. subst (λ (vs : List Text). length vs ≤ 4) few (h.variants l);
+        variants = λ l. rw few at (h.variants l);
         no_field = λ n b. h.no_field (λ r. n (repeats.1 r)) (field.0 b);
       },
     )
@@ -173,18 +179,16 @@ fronts_are_short {T = T} (p ∷ ps) h = record { variants = few; no_field = no_f
         length i.variants ≤ 4
     few i rest f =
         let l = front_language (p ∷ ps) i rest f.words f.spelled in
-        subst (λ (j : SpelledIdentifier). length j.variants ≤ 4)
-        (one_longest (p ∷ ps) _ i _ rest (front_is_front p ps l) f).0 (h.variants l)
+        (rw (one_longest (p ∷ ps) _ i _ rest (front_is_front p ps l) f).0 at (h.variants l))
 
     no_field : (o : Option SpelledIdentifier) (middle : List Text) → FrontRead T (p ∷ ps) o middle →
         ¬ (BeginsField middle)
     no_field _ _ (absent e) b = h.no_field (read_no_repeats (p ∷ ps) (absent e))
-        (subst (λ t. BeginsField (cond t (after_front (p ∷ ps)) (p ∷ ps))) (sym e) b)
+        (rw e b)
     no_field _ _ (present {i = i} {rest = rest} g f) b =
         let l = front_language (p ∷ ps) i rest f.words f.spelled in
         h.no_field (read_no_repeats (p ∷ ps) (present g f))
-        (subst (λ t. BeginsField (cond t (after_front (p ∷ ps)) (p ∷ ps))) (sym l)
-        (subst BeginsField (one_longest (p ∷ ps) i _ rest _ f (front_is_front p ps l)).1 b))
+        (rw l (subst BeginsField (one_longest (p ∷ ps) i _ rest _ f (front_is_front p ps l)).1 b))
 
 empty_front : length (front_of []).variants ≤ 4
 unfolding front_of
@@ -192,14 +196,10 @@ empty_front = omega arith
 
 empty_after : (T : LanguageLengths) → after_identifier T [] ≡ []
 unfolding after_front
-empty_after T =
-    elim (is_word (Language T) []) as (λ t. cond t (after_front []) [] ≡ []) [ true ↦ refl | false ↦ refl ]
+empty_after T = grind arith
 
 pub short_by_fronts : {T : ℕ → Bool} (ps : List Text) → IsShortByFronts T ps → IsShortTransform T ps
-short_by_fronts {T = T} [] h = record {
-  variants = λ l. empty_front;
-  no_field = λ n b. no_first_key [] refl (subst BeginsField (empty_after T) b);
-}
+short_by_fronts {T = T} [] h = search (empty_front, no_first_key, empty_after)
 short_by_fronts {T = T} (p ∷ ps) h =
     record { variants = λ l. h.variants _ _ (front_is_front p ps l); no_field = no_field }
   where

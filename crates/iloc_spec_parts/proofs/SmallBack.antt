@@ -1,27 +1,79 @@
 -- A small value prints as a well-formed locale does, and its text is read as it.
-use Rattle.std.proofs.Common.{◌≡◌, ◌≤◌, ℕ, Bool, false, not, cond, List, [], ◌∷◌, length, map, filter, refl}
-use Rattle.std.proofs.Common.{sym, ap, ◌∙◌, subst, arith, Option, Some, None, IfSome, option_map}
-use Rattle.std.proofs.Common.{option_to_list}
+use Rattle.std.proofs.Common.{
+  ◌≡◌,
+  ◌≤◌,
+  ℕ,
+  Bool,
+  false,
+  not,
+  List,
+  [],
+  ◌∷◌,
+  length,
+  map,
+  refl,
+  sym,
+  ap,
+  ◌∙◌,
+  arith,
+  Option,
+  Some,
+  None,
+  IfSome,
+  option_map,
+  option_to_list,
+}
 use Rattle.std.specs.List.{AllByRecursion}
 use Rattle.std.proofs.lemmas.Bool.{both_ways, cond_both, not-true}
-use Rattle.iloc_spec_grammar.specs.Syntax.{code_u, Text, pieces, join, AreLengths, Kind, Language, Script}
-use Rattle.iloc_spec_grammar.specs.Syntax.{Region, Variant}
-use Rattle.iloc_spec_grammar.specs.Syntax.{UnicodeKey, Attribute, IsWord, lower, is_true, HasWords}
-use Rattle.iloc_spec_grammar.specs.Syntax.{word_cmp}
+use Rattle.iloc_spec_grammar.specs.Syntax.{
+  code_u,
+  Text,
+  pieces,
+  join,
+  AreLengths,
+  Kind,
+  Language,
+  Script,
+  Region,
+  Variant,
+  UnicodeKey,
+  Attribute,
+  IsWord,
+  lower,
+  is_true,
+  HasWords,
+  word_cmp,
+}
 use Rattle.iloc_spec_grammar.specs.Tree.{IsWritten, spelling, printed, spelled_identifier}
 use Rattle.iloc_spec_grammar.specs.Meaning.{normal_values}
-use Rattle.iloc_spec_grammar.specs.Values.{IsNormal, StrictlyAscends, IsValue, IsWellFormed}
-use Rattle.iloc_spec_grammar.specs.Values.{IsIdentifierValue, text}
+use Rattle.iloc_spec_grammar.specs.Values.{
+  IsNormal,
+  StrictlyAscends,
+  IsValue,
+  IsWellFormed,
+  IsIdentifierValue,
+  text,
+}
 use Rattle.iloc_spec_grammar.proofs.ReadBack.{pieces_spelled, OfWords}
 use Rattle.iloc_spec_grammar.proofs.ValuesLaws.{value_identifier, optional_fixed}
 use Rattle.iloc_spec_grammar.proofs.WellRead.{option_normal}
 use Rattle.iloc_spec_grammar.proofs.Corollaries.{means_a_value, read_well_formed}
 use Rattle.iloc_spec_grammar.proofs.SameText.{text_is}
-use Rattle.iloc_spec_parts.specs.Small.{SmallLocale, identifier_of_small, locale_of_small, IsSmall}
-use Rattle.iloc_spec_parts.specs.Small.{IsSmallValue}
+use Rattle.iloc_spec_parts.specs.Small.{
+  SmallLocale,
+  identifier_of_small,
+  locale_of_small,
+  IsSmall,
+  IsSmallValue,
+}
 use Rattle.iloc_spec_parts.proofs.SmallShapes.{WrittenKeyword, small_keyword, one_at_most, first-option}
-use Rattle.iloc_spec_parts.proofs.SmallTrees.{keyword_extension, small_written, IsTreeSmall, tree_is_small}
-use Rattle.iloc_spec_parts.proofs.SmallTrees.{small_is_tree}
+use Rattle.iloc_spec_parts.proofs.SmallTrees.{
+  keyword_extension,
+  small_written,
+  IsTreeSmall,
+  tree_is_small,
+  small_is_tree,
+}
 use Rattle.iloc_spec_grammar.specs.Reading.{first_item}
 use Rattle.iloc_spec_parts.proofs.SmallLaws.{small_means}
 use Rattle.iloc_spec_grammar.proofs.ReadWords.{IsNormal-normal}
@@ -40,13 +92,7 @@ one_ascends (Some w) = (tt, tt)
 
 identifier_is : {T : ℕ → Bool} (r : SmallLocale) → IsSmallValue T r →
     IsIdentifierValue T (identifier_of_small r.id)
-identifier_is {T = T} r h = record {
-  language = h.language;
-  script = h.script;
-  region = h.region;
-  variants = one_normal Variant r.id.variant h.variant;
-  ascending = one_ascends r.id.variant;
-}
+identifier_is {T = T} r h = search (one_normal, one_ascends)
 
 -- its text is read as it
 
@@ -57,8 +103,7 @@ with_u k = option_map (λ k. record { byte = code_u; key = k.0; values = option_
 values_stay : (o : Option Text) → IfSome o (λ w. IsNormal Attribute w × (is_true w ≡ false)) →
     normal_values (option_to_list o) ≡ option_to_list o
 values_stay None h = refl
-values_stay (Some w) h =
-    ap (λ v. filter (λ w. not (is_true w)) (v ∷ [])) h.0.1 ∙ ap (λ b. cond (not b) (w ∷ []) []) h.1
+values_stay (Some w) h = grind arith
 
 words_of : (o : Option Text) → IfSome o (λ w. IsNormal Attribute w × (is_true w ≡ false)) →
     AllByRecursion (IsWord Attribute) (option_to_list o)
@@ -67,30 +112,19 @@ words_of (Some w) h = (h.0.0, tt)
 
 keyword_written : {T : ℕ → Bool} (r : SmallLocale) → IsSmallValue T r →
     IsWritten T (small_written (spelled_identifier (identifier_of_small r.id)) (with_u r.keyword))
-keyword_written {T = T} r h = from r.keyword h.key h.value
-  where
-    from : (k : Option (Text × Option Text)) → IfSome k (λ k. IsNormal UnicodeKey k.0) →
-        IfSome k (λ k. IfSome k.1 (λ w. IsNormal Attribute w × (is_true w ≡ false))) →
-        IsWritten T (small_written (spelled_identifier (identifier_of_small r.id)) (with_u k))
-    from None a b =
-        record { id = value_identifier _ (identifier_is r h); extensions = tt; different = tt; private = tt }
-    from (Some k) a b = record {
-      id = value_identifier _ (identifier_is r h);
-      extensions = (
-        (refl, record { attributes = tt; keywords = ((a.0, words_of k.1 b), tt); nonempty = omega arith }),
-        tt,
-      );
-      different = (both_ways _ refl, tt);
-      private = tt;
-    }
+keyword_written {T = T} r h = grind (
+  arith,
+  small_written,
+  value_identifier,
+  identifier_is,
+  words_of,
+  both_ways,
+)
 
 printed_small : (r : SmallLocale) →
     printed (locale_of_small r)
     ≡ small_written (spelled_identifier (identifier_of_small r.id)) (with_u r.keyword)
-printed_small r = elim r.keyword
-    as (λ k. printed (locale_of_small (record { id = r.id; keyword = k }))
-    ≡ small_written (spelled_identifier (identifier_of_small r.id)) (with_u k))
-    [ None ↦ refl | Some k ↦ refl ]
+printed_small r = grind (arith, small_written)
 
 variant_stays : (o : Option Text) → IfSome o (IsNormal Variant) →
     first_item (map lower (option_to_list o)) ≡ o
@@ -101,7 +135,7 @@ keyword_stays : (k : Option (Text × Option Text)) → IfSome k (λ k. IsNormal 
     IfSome k (λ k. IfSome k.1 (λ w. IsNormal Attribute w × (is_true w ≡ false))) →
     option_map (λ (k : WrittenKeyword). (lower k.key, first_item (normal_values k.values))) (with_u k) ≡ k
 keyword_stays None a b = refl
-keyword_stays (Some k) a b = λ i. Some (a.1 i, (ap first_item (values_stay k.1 b) ∙ first-option k.1) i)
+keyword_stays (Some k) a b = grind (arith, values_stay, first-option)
 
 pub small_back : {T : ℕ → Bool} (r : SmallLocale) → IsSmallValue T r → IsSmall T (text (locale_of_small r)) r
 small_back {T = T} r h = tree_is_small _ r (record {
@@ -129,7 +163,7 @@ small_back {T = T} r h = tree_is_small _ r (record {
         IfSome k (λ k. IfSome k.1 (λ w. IsNormal Attribute w × (is_true w ≡ false))) →
         IfSome (with_u k) (λ k. length (normal_values k.values) ≤ 1)
     one_left None b = tt
-    one_left (Some k) b = subst (λ (n : ℕ). n ≤ 1) (sym (ap length (values_stay k.1 b))) (one_at_most k.1)
+    one_left (Some k) b = rw (ap length (values_stay k.1 b)) (one_at_most k.1)
 
 pub small_is_value : {T : ℕ → Bool} (r : SmallLocale) → IsSmallValue T r → IsValue T (locale_of_small r)
 small_is_value r h = means_a_value _ _ (small_means _ r (small_back r h))
@@ -154,7 +188,7 @@ value_is (w ∷ ws) h = cond_both (not (is_true (lower w))) _ _
     (λ e. value_is ws h.1)
 
 pub read_is_small_value : {T : ℕ → Bool} (t : Text) (r : SmallLocale) → IsSmall T t r → IsSmallValue T r
-read_is_small_value {T = T} t r small = subst (IsSmallValue T) (sym h.means) (record {
+read_is_small_value {T = T} t r small = rw h.means (record {
   language = IsNormal-normal (Language T) h.id.language words.language;
   script = option_normal Script h.id.script words.script;
   region = option_normal Region h.id.region words.region;

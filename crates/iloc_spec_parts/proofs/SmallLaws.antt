@@ -1,35 +1,101 @@
 -- Small texts: each text is small in one way, or has one fault; and a small text is a locale.
-use Rattle.std.proofs.Common.{◌≡◌, ◌≢◌, ◌⊎◌, inl, inr, ℕ, ◌≤◌, Bool, true, false, cond, ◌&&◌, ◌==◌, nat_le}
+use Rattle.std.proofs.Common.{◌≡◌, ◌≢◌, ◌⊎◌, inl, inr, ℕ, ◌≤◌, Bool, true, false, ◌&&◌, ◌==◌, nat_le}
 use Rattle.std.proofs.Common.{List, [], ◌∷◌, length, refl, sym, ap, ◌∙◌, arith, Option, Some, None, IfSome}
 use Rattle.std.proofs.Common.{MatchResult, Result, Ok, Err, option_map, option_to_list, true≢false}
 use Rattle.std.specs.List.{AllByRecursion, list_all}
 use Rattle.std.specs.Char.{is_ascii_alphanumeric}
-use Rattle.std.proofs.lemmas.Bool.{and_parts, and_from, cond_both, false_from_ne_true, leb-true, le-leb}
-use Rattle.std.proofs.lemmas.Bool.{eqb-true, eqb-false, eq-eqb, ne_eqb}
-use Rattle.iloc_spec_grammar.specs.Syntax.{LanguageLengths, Field, Block, code_u, Text, pieces, Kind}
-use Rattle.iloc_spec_grammar.specs.Syntax.{Language, Script, Region, Variant, UnicodeKey}
-use Rattle.iloc_spec_grammar.specs.Syntax.{Attribute, is_word, IsWord, AreLengths, SpelledIdentifier}
-use Rattle.iloc_spec_grammar.specs.Syntax.{HasWords, lower_singleton, head, tail_blocks, front, first_piece}
+use Rattle.std.proofs.lemmas.Bool.{
+  and_parts,
+  and_from,
+  cond_both,
+  false_from_ne_true,
+  leb-true,
+  le-leb,
+  eqb-true,
+  eqb-false,
+  eq-eqb,
+  ne_eqb,
+}
+use Rattle.iloc_spec_grammar.specs.Syntax.{
+  LanguageLengths,
+  Field,
+  Block,
+  code_u,
+  Text,
+  pieces,
+  Kind,
+  Language,
+  Variant,
+  UnicodeKey,
+  Attribute,
+  is_word,
+  IsWord,
+  AreLengths,
+  SpelledIdentifier,
+  HasWords,
+  lower_singleton,
+  head,
+  tail_blocks,
+  front,
+  first_piece,
+}
 use Rattle.iloc_spec_grammar.specs.Meaning.{Locale, Means, normal_values, IdentifierMeans, Fault}
 use Rattle.iloc_spec_grammar.proofs.WordsLaws.{length-attribute, length-unicode_key}
-use Rattle.iloc_spec_grammar.proofs.IdentifierLaws.{one_identifier, pieces-identifier_of}
-use Rattle.iloc_spec_grammar.proofs.IdentifierLaws.{identifier_of-pieces}
-use Rattle.iloc_spec_grammar.specs.Reading.{take_first, skip_first, first_item, identifier_of}
+use Rattle.iloc_spec_grammar.proofs.IdentifierLaws.{
+  one_identifier,
+  pieces-identifier_of,
+  identifier_of-pieces,
+}
+use Rattle.iloc_spec_grammar.specs.Reading.{take_first, first_item, identifier_of}
 use Rattle.iloc_spec_grammar.proofs.Readings.{one_meaning}
 use Rattle.iloc_spec_grammar.proofs.PiecesLaws.{pieces_nonempty}
 use Rattle.iloc_spec_grammar.proofs.RuleTests.{Tests, tests_all, tests_word}
-use Rattle.iloc_spec_parts.specs.SmallComputing.{small_identifier, has_small_variants}
-use Rattle.iloc_spec_parts.specs.SmallComputing.{small_identifier_result, block_fault, has_small_keyword}
-use Rattle.iloc_spec_parts.specs.SmallComputing.{is_u, is_small_block, keyword_read, blocks_result}
-use Rattle.iloc_spec_parts.specs.SmallComputing.{after_identifier, small_result}
-use Rattle.iloc_spec_parts.proofs.SmallShapes.{small_identifier_of, one_variant, small_identifier_is}
-use Rattle.iloc_spec_parts.proofs.SmallShapes.{WrittenKeyword, keyword_blocks, IsSmallKeyword}
-use Rattle.iloc_spec_parts.proofs.SmallShapes.{keyword_spelled, small_by_keyword, u_letter}
+use Rattle.iloc_spec_parts.specs.SmallComputing.{
+  small_identifier,
+  has_small_variants,
+  small_identifier_result,
+  block_fault,
+  has_small_keyword,
+  is_u,
+  is_small_block,
+  keyword_read,
+  blocks_result,
+  after_identifier,
+  small_result,
+}
+use Rattle.iloc_spec_parts.proofs.SmallShapes.{
+  small_identifier_of,
+  one_variant,
+  small_identifier_is,
+  WrittenKeyword,
+  keyword_blocks,
+  IsSmallKeyword,
+  keyword_spelled,
+  small_by_keyword,
+  u_letter,
+}
 use Rattle.iloc_spec_grammar.proofs.SameMeaning.{tree_means}
-use Rattle.iloc_spec_parts.specs.Small.{SmallIdentifier, SmallLocale, identifier_of_small, keyword_of_small}
-use Rattle.iloc_spec_parts.specs.Small.{locale_of_small, IsSmallIdentifier, IsSmall, HasSmallIdentifierFault}
-use Rattle.iloc_spec_parts.specs.Small.{no_language, no_identifier, SmallBlockFault, no_singleton, not_u}
-use Rattle.iloc_spec_parts.specs.Small.{attribute, no_key, after_key, HasSmallFault, bad_head, bad_block}
+use Rattle.iloc_spec_parts.specs.Small.{
+  SmallIdentifier,
+  SmallLocale,
+  identifier_of_small,
+  keyword_of_small,
+  locale_of_small,
+  IsSmallIdentifier,
+  IsSmall,
+  HasSmallIdentifierFault,
+  no_language,
+  no_identifier,
+  SmallBlockFault,
+  no_singleton,
+  not_u,
+  attribute,
+  no_key,
+  after_key,
+  HasSmallFault,
+  bad_head,
+  bad_block,
+}
 pub use Rattle.iloc_spec_parts.proofs.SmallShapes.{short_different, first-option}
 
 -- identifiers
@@ -40,16 +106,13 @@ small_identifier_means ps r h = h
 
 pub one_small_identifier : {T : ℕ → Bool} (ps : List Text) (r s : SmallIdentifier) →
     IsSmallIdentifier T ps r → IsSmallIdentifier T ps s → r ≡ s
-one_small_identifier ps r s a b = small_identifier_is ps r a
-    ∙ ap small_identifier
-    (one_identifier a.written b.written a.grammatical.words b.grammatical.words (sym a.spelled ∙ b.spelled))
-    ∙ sym (small_identifier_is ps s b)
+one_small_identifier ps r s a b = grind (arith, small_identifier_is, one_identifier)
 
 -- small texts are locales
 
 pub small_means : {T : ℕ → Bool} (t : Text) (r : SmallLocale) → IsSmall T t r →
     Means T t (locale_of_small r)
-small_means t r h = record { id = h.id; extensions = (h.written, h.spelled, h.means) }
+small_means t r h = grind arith
 
 -- and have one reading
 
@@ -69,7 +132,7 @@ keyword_back : (o : Option (Text × Option Text)) →
     (first_item (option_to_list (option_map keyword_of_small o)))
     ≡ o
 keyword_back None = refl
-keyword_back (Some k) = ap (λ (v : Option Text). Some (k.0, v)) (first-option k.1)
+keyword_back (Some k) = simp first-option
 
 small_of-locale_of_small : (r : SmallLocale) → small_of_locale (locale_of_small r) ≡ r
 unfolding small_of_locale
@@ -97,18 +160,12 @@ all_words k ps = tests_all (is_word k) (IsWord k) (tests_word k) ps
 
 taken : (k : Kind) (qs : List Text) → IfSome (take_first (is_word k) qs) (IsWord k)
 taken k [] = tt
-taken k (q ∷ qs) = elim (is_word k q) as (λ b. is_word k q ≡ b → IfSome (cond b (Some q) None) (IsWord k))
-    [ true ↦ λ e. e | false ↦ λ e. tt ] refl
+taken k (q ∷ qs) = grind arith
 
 pub words_read : (T : LanguageLengths) (p : Text) (ps : List Text) → IsWord (Language T) p →
     AllByRecursion (IsWord Variant) (identifier_of (p ∷ ps)).variants → HasWords T (identifier_of (p ∷ ps))
 unfolding identifier_of
-words_read T p ps h v = record {
-  language = h;
-  script = taken Script ps;
-  region = taken Region (skip_first (is_word Script) ps);
-  variants = v;
-}
+words_read T p ps h v = search taken
 
 small_read : (T : LanguageLengths) (p : Text) (ps : List Text) → IsWord (Language T) p →
     has_small_variants (identifier_of (p ∷ ps)).variants ≡ true →
@@ -146,16 +203,14 @@ small_identifier_answer T p ps = cond_both (is_word (Language T) p) _ _
 
 pub small_identifier_apart : {T : ℕ → Bool} (ps : List Text) (r : SmallIdentifier) (f : Fault) →
     IsSmallIdentifier T ps r → HasSmallIdentifierFault T ps f → ⊥
-small_identifier_apart {T = T} ps r f h (no_language e) = true≢false (sym h.grammatical.words.language
-    ∙ ap (λ (l : List Text). is_word (Language T) (first_piece l)) (sym h.spelled) ∙ e)
+small_identifier_apart {T = T} ps r f h (no_language e) = grind (arith, true≢false)
 small_identifier_apart ps r f h (no_identifier l n) = n r h
 
 pub one_small_identifier_fault : {T : ℕ → Bool} (ps : List Text) {f g : Fault} →
     HasSmallIdentifierFault T ps f → HasSmallIdentifierFault T ps g → f ≡ g
-one_small_identifier_fault ps (no_language e) (no_language k) = refl
 one_small_identifier_fault ps (no_language e) (no_identifier k n) = absurd (true≢false (sym k ∙ e))
 one_small_identifier_fault ps (no_identifier l n) (no_language e) = absurd (true≢false (sym l ∙ e))
-one_small_identifier_fault ps (no_identifier l n) (no_identifier k m) = refl
+one_small_identifier_fault ps _ _ = refl
 
 -- the first block
 
@@ -177,19 +232,14 @@ is_block_fault : (b : Block) {f : Fault} → SmallBlockFault b f → block_fault
 unfolding block_fault
 is_block_fault b (no_singleton e) = rw e refl
 is_block_fault b (not_u a n) = rw (a, ne_eqb (lower_singleton b) code_u n) refl
-is_block_fault b (attribute u a) = rw (u_letter b.0 u, eq-eqb (lower_singleton b) code_u u, a) refl
-is_block_fault b (no_key u a k) = rw (u_letter b.0 u, eq-eqb (lower_singleton b) code_u u, a, k) refl
-is_block_fault b (after_key u k) = rw (
-  u_letter b.0 u,
-  eq-eqb (lower_singleton b) code_u u,
-  false_from_ne_true (is_word Attribute (first_piece b.1)) (λ a. no_both (first_piece b.1) a k),
-  k,
-) refl
+is_block_fault b (attribute u a) = grind (arith, u_letter, eq-eqb)
+is_block_fault b (no_key u a k) = grind (arith, u_letter, eq-eqb)
+is_block_fault b (after_key u k) = grind (arith, u_letter, eq-eqb, false_from_ne_true, no_both)
 
 -- a small text without a block, and with one
 module _ {T : ℕ → Bool} (t : Text) (r : SmallIdentifier) (h : IsSmallIdentifier T (head (pieces t)) r) where
   no_block : tail_blocks (pieces t) ≡ [] → IsSmall T t (record { id = r; keyword = None })
-  no_block k = small_by_keyword t _ h (record { keyword = None; grammatical = tt; spelled = k; means = refl })
+  no_block k = grind (arith, small_by_keyword)
 
   one_block : (b : Block) (bs : List Block) → tail_blocks (pieces t) ≡ b ∷ bs →
       is_small_block b bs ≡ true → IsSmall T t (record { id = r; keyword = Some (keyword_read b.1) })
@@ -271,9 +321,8 @@ pub one_small_fault : {T : ℕ → Bool} (t : Text) {f g : Fault} → HasSmallFa
 one_small_fault t (bad_head x) (bad_head y) = one_small_identifier_fault _ x y
 one_small_fault t (bad_head x) (bad_block s i n e y) = absurd (small_identifier_apart _ _ _ i x)
 one_small_fault t (bad_block s i n e x) (bad_head y) = absurd (small_identifier_apart _ _ _ i y)
-one_small_fault t (bad_block s {b = b} {bs = bs} i n e x) (bad_block q {b = d} {bs = ds} j m k y) =
-    let same : b ≡ d = cc in
-    sym (is_block_fault b x) ∙ ap block_fault same ∙ is_block_fault d y
+one_small_fault t (bad_block s {b = b} {bs = bs} i n e x) (bad_block q {b = d} {bs = ds} j m k y) = grind
+    (arith, is_block_fault)
 
 -- one or the other
 

@@ -1,33 +1,111 @@
 -- What small texts are made of: an identifier with one variant at most, and no block or one of `u`
 -- with a keyword.
-use Rattle.std.proofs.Common.{◌≡◌, ℕ, ◌<◌, ◌≤◌, Bool, true, false, cond, List, [], ◌∷◌, ◌++◌, length, map}
-use Rattle.std.proofs.Common.{filter, refl, sym, ap, ◌∙◌, subst, arith, Option, Some, None, IfSome}
-use Rattle.std.proofs.Common.{option_map, option_to_list, true≢false, append-nil}
+use Rattle.std.proofs.Common.{
+  ◌≡◌,
+  ℕ,
+  ◌<◌,
+  ◌≤◌,
+  Bool,
+  true,
+  false,
+  cond,
+  List,
+  [],
+  ◌∷◌,
+  ◌++◌,
+  length,
+  map,
+  filter,
+  refl,
+  sym,
+  ap,
+  ◌∙◌,
+  arith,
+  Option,
+  Some,
+  None,
+  IfSome,
+  option_map,
+  option_to_list,
+  true≢false,
+  append-nil,
+}
 use Rattle.std.specs.List.{AllByRecursion}
 use Rattle.std.specs.Char.{is_ascii_alphanumeric, to_ascii_lowercase}
-use Rattle.std.specs.Ordering.{nat_cmp, eq_by_cmp, is_eq}
+use Rattle.std.specs.Ordering.{nat_cmp, is_eq}
 use Rattle.std.specs.declared.cmp.Ordering.{Ordering}
 use Rattle.std.specs.Cmp.{IsTotalOrder, nat_cmp_total, tied_itself}
 use Rattle.std.specs.FinMap.{find}
 use Rattle.std.proofs.lemmas.Bool.{or_parts, eq-eqb, false_from_ne_true, both_ways}
 use Rattle.std.proofs.lemmas.Bool.Decides.{nat_tests}
 use Rattle.std.proofs.lemmas.List.{length-map}
-use Rattle.iloc_spec_grammar.specs.Syntax.{Field, Block, code_x, code_u, code_t, Text, pieces, UnicodeKey}
-use Rattle.iloc_spec_grammar.specs.Syntax.{Attribute, IsWord, lower, word_cmp, Spelled}
-use Rattle.iloc_spec_grammar.specs.Syntax.{SpelledIdentifier, SpelledTransform, Identifier, Transform, Fields}
-use Rattle.iloc_spec_grammar.specs.Syntax.{identifier_pieces, fields_pieces, transform_pieces, IsIdentifier}
-use Rattle.iloc_spec_grammar.specs.Syntax.{AllDifferent, kept, is_other_singleton, lower_singleton, head}
-use Rattle.iloc_spec_grammar.specs.Syntax.{tail_blocks}
-use Rattle.iloc_spec_grammar.specs.Meaning.{SpelledExtensions, Extensions, map_of, set_of, normal_identifier}
-use Rattle.iloc_spec_grammar.specs.Meaning.{normal_values, normal_fields, normal_extensions, just_unicode}
-use Rattle.iloc_spec_grammar.specs.Meaning.{no_transform, SpellsExtensions, after}
+use Rattle.iloc_spec_grammar.specs.Syntax.{
+  Field,
+  Block,
+  code_x,
+  code_u,
+  code_t,
+  Text,
+  pieces,
+  UnicodeKey,
+  Attribute,
+  IsWord,
+  lower,
+  word_cmp,
+  Spelled,
+  SpelledIdentifier,
+  SpelledTransform,
+  Identifier,
+  Transform,
+  Fields,
+  identifier_pieces,
+  fields_pieces,
+  transform_pieces,
+  IsIdentifier,
+  AllDifferent,
+  kept,
+  is_other_singleton,
+  lower_singleton,
+  head,
+  tail_blocks,
+}
+use Rattle.iloc_spec_grammar.specs.Meaning.{
+  SpelledExtensions,
+  Extensions,
+  map_of,
+  set_of,
+  normal_identifier,
+  normal_values,
+  normal_fields,
+  normal_extensions,
+  just_unicode,
+  no_transform,
+  SpellsExtensions,
+  after,
+}
 use Rattle.iloc_spec_grammar.specs.Reading.{first_item}
 use Rattle.iloc_spec_grammar.proofs.MapLaws.{word_cmp_total, find-map_of}
 use Rattle.iloc_spec_grammar.proofs.SetLaws.{length-set_of-different}
-use Rattle.iloc_spec_grammar.proofs.Singletons.{self_tied, IsKind, of_u, of_t, of_x, another, kind_of}
-use Rattle.iloc_spec_grammar.proofs.Singletons.{lower_letter, no_u}
-use Rattle.iloc_spec_parts.specs.Small.{SmallIdentifier, SmallLocale, identifier_of_small, keyword_of_small}
-use Rattle.iloc_spec_parts.specs.Small.{locale_of_small, IsSmallIdentifier, IsSmall}
+use Rattle.iloc_spec_grammar.proofs.Singletons.{
+  self_tied,
+  IsKind,
+  of_u,
+  of_t,
+  of_x,
+  another,
+  kind_of,
+  lower_letter,
+  no_u,
+}
+use Rattle.iloc_spec_parts.specs.Small.{
+  SmallIdentifier,
+  SmallLocale,
+  identifier_of_small,
+  keyword_of_small,
+  locale_of_small,
+  IsSmallIdentifier,
+  IsSmall,
+}
 use Rattle.iloc_spec_parts.specs.SmallComputing.{small_identifier}
 
 -- lists of at most one item
@@ -73,12 +151,10 @@ none_mapped f [] e = refl
 none_mapped f (x ∷ xs) e = absurd (cc)
 
 none_in_set : (ws : List Text) → set_of ws ≡ [] → ws ≡ []
-none_in_set ws e = none_mapped (λ (w : Text). (w, w)) ws (none_there word_cmp word_cmp_total
-    (map (λ w. (w, w)) ws) (none_mapped (λ (e : Text × Text). e.0) _ e))
+none_in_set ws e = grind (arith, none_mapped, none_there, word_cmp_total)
 
 pub no_normal_fields : (fs : Fields) → normal_fields fs ≡ [] → fs ≡ []
-no_normal_fields fs e = none_mapped (λ (f : Field). (lower f.0, normal_values f.1)) fs
-    (none_there word_cmp word_cmp_total _ e)
+no_normal_fields fs e = grind (arith, none_mapped, none_there, word_cmp_total)
 
 pub none_of_both : {X : Type 0} (xs ys : List X) → xs ++ ys ≡ [] → (xs ≡ []) × (ys ≡ [])
 none_of_both [] ys e = (refl, e)
@@ -88,21 +164,15 @@ none_of_both (x ∷ xs) ys e = absurd (cc)
 
 pub same_variants : (i : SpelledIdentifier) → length i.variants ≤ 1 →
     identifier_of_small (small_identifier i) ≡ normal_identifier i
-same_variants i h = ap (λ vs. record (normal_identifier i) { variants = vs }) (short_set i.variants h)
+same_variants i h = simp short_set
 
 pub small_identifier_of : {T : ℕ → Bool} (ps : List Text) (i : SpelledIdentifier) → IsIdentifier T i →
     ps ≡ identifier_pieces i → length i.variants ≤ 1 → IsSmallIdentifier T ps (small_identifier i)
-small_identifier_of ps i g e few =
-    record { written = i; grammatical = g; spelled = e; means = same_variants i few }
+small_identifier_of ps i g e few = search same_variants
 
 pub one_variant : {T : ℕ → Bool} (ps : List Text) (r : SmallIdentifier) (h : IsSmallIdentifier T ps r) →
     length h.written.variants ≤ 1
-one_variant ps r h =
-    let vs = h.written.variants in
-    let same : length (option_to_list r.variant) ≡ length vs =
-    ap (λ (i : Identifier). length i.variants) h.means
-    ∙ length-set_of-different (map lower vs) h.grammatical.different ∙ length-map vs lower in
-    subst (λ (n : ℕ). n ≤ 1) same (one_at_most r.variant)
+one_variant ps r h = grind (arith, length-set_of-different, length-map, one_at_most)
 
 pub small_identifier_is : {T : ℕ → Bool} (ps : List Text) (r : SmallIdentifier)
     (h : IsSmallIdentifier T ps r) →
@@ -162,11 +232,12 @@ pub nothing_here : {X : Type 0} (xs : List X) → 0 < length xs → xs ≡ [] �
 nothing_here [] h e = absurd (omega arith)
 nothing_here (x ∷ xs) h e = absurd (cc)
 
-only_u : (bs : List Block) → AllByRecursion HasPieces bs → after code_t bs ≡ [] →
-    after code_x bs ≡ [] →
-    filter {X = Block} (λ b. is_other_singleton b.0) (map (λ b. (lower_singleton b, b.1)) bs)
-    ≡ [] →
-    AllByRecursion IsOfU bs
+-- those of other singletons
+abbrev other_blocks : List Block → List Block
+other_blocks bs = filter {X = Block} (λ b. is_other_singleton b.0) (map (λ b. (lower_singleton b, b.1)) bs)
+
+only_u : (bs : List Block) → AllByRecursion HasPieces bs → after code_t bs ≡ [] → after code_x bs ≡ [] →
+    other_blocks bs ≡ [] → AllByRecursion IsOfU bs
 only_u [] h t x o = tt
 only_u (b ∷ bs) h t x o = (
   at (kind_of (lower_singleton b) (lower_letter b.0 h.0.0)),
@@ -180,26 +251,13 @@ only_u (b ∷ bs) h t x o = (
         (ap (λ t. cond t b.1 []) (sym (eq-eqb (lower_singleton b) code_t e)) ∙ (none_of_both _ _ t).0))
     at (of_x e) = absurd (nothing_here b.1 h.0.1
         (ap (λ t. cond t b.1 []) (sym (eq-eqb (lower_singleton b) code_x e)) ∙ (none_of_both _ _ x).0))
-    at (another e) = let some : (lower_singleton b, b.1)
-        ∷ filter {X = Block} (λ b. is_other_singleton b.0)
-        (map (λ b. (lower_singleton b, b.1)) bs)
-        ≡ [] = ap (λ t. cond t
-        ((lower_singleton b, b.1)
-        ∷ filter {X = Block} (λ b. is_other_singleton b.0)
-        (map (λ b. (lower_singleton b, b.1)) bs)) (filter {X = Block}
-        (λ b. is_other_singleton b.0) (map (λ b. (lower_singleton b, b.1)) bs))) (sym e)
-        ∙ o in
+    at (another e) =
+        let some : (lower_singleton b, b.1) ∷ other_blocks bs ≡ [] =
+        ap (λ t. cond t ((lower_singleton b, b.1) ∷ other_blocks bs) (other_blocks bs)) (sym e) ∙ o in
         absurd (cc)
 
-    others : (t : Bool) →
-        cond t
-        ((lower_singleton b, b.1)
-        ∷ filter {X = Block} (λ b. is_other_singleton b.0)
-        (map (λ b. (lower_singleton b, b.1)) bs)) (filter {X = Block}
-        (λ b. is_other_singleton b.0) (map (λ b. (lower_singleton b, b.1)) bs))
-        ≡ [] →
-        filter {X = Block} (λ b. is_other_singleton b.0) (map (λ b. (lower_singleton b, b.1)) bs)
-        ≡ []
+    others : (t : Bool) → cond t ((lower_singleton b, b.1) ∷ other_blocks bs) (other_blocks bs) ≡ [] →
+        other_blocks bs ≡ []
     others true e = absurd (cc)
     others false e = e
 
@@ -210,11 +268,10 @@ one_of_u : (bs : List Block) → AllDifferent nat_cmp (map (λ b. lower_singleto
     AllByRecursion (λ f. IsWord UnicodeKey f.0 × AllByRecursion (IsWord Attribute) f.1) fs → length fs ≤ 1 →
     (o : Option (Text × Option Text)) →
     option_to_list (option_map keyword_of_small o) ≡ normal_fields fs → SpellsKeyword bs o
-one_of_u [] d h u [] k w l None e = record { keyword = None; grammatical = tt; spelled = refl; means = refl }
+one_of_u [] d h u [] k w l None e = grind arith
 one_of_u [] d h u (f ∷ fs) k w l o e = absurd (cc)
 one_of_u bs d h u [] k w l (Some q) e = absurd (cc)
-one_of_u ((c, ps) ∷ []) d h u [] k w l o e = absurd (nothing_here ps h.0.1
-    (ap (λ t. cond t ps []) (sym (eq-eqb (to_ascii_lowercase c) code_u u.0)) ∙ (none_of_both _ _ k).0))
+one_of_u ((c, ps) ∷ []) d h u [] k w l o e = grind (arith, nothing_here, eq-eqb, none_of_both)
 one_of_u ((c, ps) ∷ []) d h u (f ∷ []) k w l None e = absurd (cc)
 one_of_u ((c, ps) ∷ []) d h u (f ∷ []) k w l (Some q) e =
     let pieces_are : ps ≡ f.0 ∷ f.1 =
@@ -229,16 +286,13 @@ one_of_u ((c, ps) ∷ []) d h u (f ∷ []) k w l (Some q) e =
         u = u.0;
         key = w.0.0;
         values = w.0.1;
-        one_value = subst (λ (l : List Text). length l ≤ 1) value (one_at_most q.1);
+        one_value = rw value at (one_at_most q.1);
       };
       spelled = ap (λ l. (c, l) ∷ []) pieces_are;
       means = λ i. Some (key i, (sym (first-option q.1) ∙ ap first_item value) i);
     }
 one_of_u bs d h u (f ∷ g ∷ fs) k w l o e = absurd (omega arith)
-one_of_u (b ∷ c ∷ bs) d h u fs k w l o e = absurd (true≢false (sym
-    (ap (λ q. eq_by_cmp nat_cmp q (lower_singleton c)) u.0 ∙ ap (eq_by_cmp nat_cmp code_u) u.1.0
-    ∙ self_tied code_u)
-    ∙ (or_parts _ _ (false_from_ne_true _ d.0)).0))
+one_of_u (b ∷ c ∷ bs) d h u fs k w l o e = grind (arith, true≢false, self_tied, or_parts, false_from_ne_true)
 
 pub keyword_spelled : {T : ℕ → Bool} (t : Text) (r : SmallLocale) → IsSmall T t r →
     SpellsKeyword (tail_blocks (pieces t)) r.keyword
@@ -288,22 +342,8 @@ u_letter c h = grind (arith, nat_tests)
 
 spelled_keyword : {T : ℕ → Bool} (k : Option WrittenKeyword) → IfSome k IsSmallKeyword →
     SpellsExtensions T (keyword_blocks k) (keyword_extensions k)
-spelled_keyword None g = record {
-  each_block = tt;
-  different = tt;
-  unicode = (record { attributes = tt; keywords = tt }, refl);
-  transform = (record { id = tt; fields = tt }, refl);
-  private = (tt, refl);
-  others = (tt, refl);
-}
-spelled_keyword (Some k) g = record {
-  each_block = ((u_letter k.byte g.u, omega arith), tt);
-  different = (both_ways _ refl, tt);
-  unicode = (record { attributes = tt; keywords = ((g.key, g.values), tt) }, rw g.u refl);
-  transform = (record { id = tt; fields = tt }, rw g.u refl);
-  private = (tt, rw g.u refl);
-  others = (tt, rw (false_from_ne_true (is_other_singleton (to_ascii_lowercase k.byte)) (no_u _ g.u)) refl);
-}
+spelled_keyword None g = grind arith
+spelled_keyword (Some k) g = grind (arith, u_letter, both_ways, false_from_ne_true, no_u)
 
 pub small_by_keyword : {T : ℕ → Bool} (t : Text) (r : SmallLocale) →
     IsSmallIdentifier T (head (pieces t)) r.id → SpellsKeyword (tail_blocks (pieces t)) r.keyword →
@@ -311,8 +351,7 @@ pub small_by_keyword : {T : ℕ → Bool} (t : Text) (r : SmallLocale) →
 small_by_keyword {T = T} t r id k = record {
   id = id;
   written = keyword_extensions k.keyword;
-  spelled = subst (λ bs. SpellsExtensions T bs (keyword_extensions k.keyword)) (sym k.spelled)
-      (spelled_keyword k.keyword k.grammatical);
+  spelled = rw k.spelled (spelled_keyword k.keyword k.grammatical);
   one_keyword = one_at_most (option_map (λ (k : WrittenKeyword). (k.key, k.values)) k.keyword);
   means = means k.keyword k.grammatical
       (ap (λ o. (locale_of_small (record { id = r.id; keyword = o })).extensions) k.means);

@@ -1,27 +1,83 @@
 -- Small texts by the trees that they spell.
-use Rattle.std.proofs.Common.{◌≡◌, ◌≢◌, ℕ, ◌≤◌, Bool, false, ◌==◌, List, [], ◌∷◌, ◌++◌, length, map, flat_map}
-use Rattle.std.proofs.Common.{refl, sym, ap, ◌∙◌, subst, arith, Option, Some, None, IfSome, option_map}
-use Rattle.std.proofs.Common.{append-nil}
+use Rattle.std.proofs.Common.{
+  ◌≡◌,
+  ◌≢◌,
+  ℕ,
+  ◌≤◌,
+  Bool,
+  false,
+  ◌==◌,
+  List,
+  [],
+  ◌∷◌,
+  ◌++◌,
+  length,
+  map,
+  flat_map,
+  refl,
+  sym,
+  ap,
+  ◌∙◌,
+  arith,
+  Option,
+  Some,
+  None,
+  IfSome,
+  option_map,
+  append-nil,
+}
 use Rattle.std.specs.List.{AllByRecursion}
 use Rattle.std.proofs.lemmas.Bool.{ne_eqb, both_ways}
-use Rattle.iloc_spec_grammar.specs.Syntax.{LanguageLengths, code_x, Text, pieces, UnicodeKey, Attribute}
-use Rattle.iloc_spec_grammar.specs.Syntax.{IsWord, SpelledIdentifier, HasWords}
-use Rattle.iloc_spec_grammar.specs.Syntax.{head, tail_blocks, blocks, lower_singleton}
-use Rattle.iloc_spec_grammar.specs.Tree.{Extension, unicode, Written, IsWritten, spelling, block_pieces}
-use Rattle.iloc_spec_grammar.specs.Tree.{extension_block}
+use Rattle.iloc_spec_grammar.specs.Syntax.{
+  LanguageLengths,
+  code_x,
+  Text,
+  pieces,
+  UnicodeKey,
+  IsWord,
+  SpelledIdentifier,
+  HasWords,
+  head,
+  tail_blocks,
+  blocks,
+  lower_singleton,
+}
+use Rattle.iloc_spec_grammar.specs.Tree.{
+  Extension,
+  unicode,
+  Written,
+  IsWritten,
+  spelling,
+  block_pieces,
+  extension_block,
+}
 use Rattle.iloc_spec_grammar.specs.Meaning.{normal_values}
 use Rattle.iloc_spec_grammar.proofs.FaultLaws.{head-and-blocks}
 use Rattle.iloc_spec_grammar.proofs.PiecesLaws.{pieces_nonempty}
-use Rattle.iloc_spec_grammar.proofs.Readings.{IsLong, long_attribute, after_language, long_after_language}
-use Rattle.iloc_spec_grammar.proofs.Readings.{blocks_past}
-use Rattle.iloc_spec_grammar.proofs.Readings.{head-spelling, blocks_spelled}
+use Rattle.iloc_spec_grammar.proofs.Readings.{
+  IsLong,
+  long_attribute,
+  after_language,
+  long_after_language,
+  blocks_past,
+  head-spelling,
+  blocks_spelled,
+}
 use Rattle.iloc_spec_grammar.proofs.WordsLaws.{length-unicode_key}
 use Rattle.iloc_spec_grammar.proofs.ValuesLaws.{all_weaker}
-use Rattle.iloc_spec_parts.specs.Small.{SmallLocale, IsSmallIdentifier, IsSmall}
+use Rattle.iloc_spec_parts.specs.Small.{SmallLocale, IsSmall}
 use Rattle.iloc_spec_parts.specs.SmallComputing.{small_identifier}
-use Rattle.iloc_spec_parts.proofs.SmallShapes.{WrittenKeyword, small_keyword, keyword_blocks, IsSmallKeyword}
-use Rattle.iloc_spec_parts.proofs.SmallShapes.{small_identifier_of, one_variant, small_identifier_is}
-use Rattle.iloc_spec_parts.proofs.SmallShapes.{keyword_spelled, small_by_keyword}
+use Rattle.iloc_spec_parts.proofs.SmallShapes.{
+  WrittenKeyword,
+  small_keyword,
+  keyword_blocks,
+  IsSmallKeyword,
+  small_identifier_of,
+  one_variant,
+  small_identifier_is,
+  keyword_spelled,
+  small_by_keyword,
+}
 
 -- no extension, or one keyword after its singleton
 abbrev pub keyword_extension : Option WrittenKeyword → List (ℕ × Extension)
@@ -48,22 +104,16 @@ pub record IsTreeSmall (T : LanguageLengths) (t : Text) (r : SmallLocale) : Type
 
 extension_is : (k : Option WrittenKeyword) → map extension_block (keyword_extension k) ≡ keyword_blocks k
 extension_is None = refl
-extension_is (Some k) = ap (λ (l : List Text). (k.byte, k.key ∷ l) ∷ []) (append-nil k.values)
+extension_is (Some k) = simp append-nil
 
 pub long_key : (p : Text) → IsWord UnicodeKey p → IsLong p
-long_key p h = ne_eqb (length p) 1 (λ e. let l = length-unicode_key p h in absurd (omega arith))
+long_key p h = simp (ne_eqb, length-unicode_key)
 
 long_blocks : (k : Option WrittenKeyword) → IfSome k IsSmallKeyword →
     AllByRecursion (λ b. ((lower_singleton b == code_x) ≡ false) × AllByRecursion IsLong b.1)
     (keyword_blocks k)
 long_blocks None g = tt
-long_blocks (Some k) g = (
-  (
-    rw g.u refl,
-    (long_key k.key g.key, all_weaker (IsWord Attribute) IsLong long_attribute k.values g.values),
-  ),
-  tt,
-)
+long_blocks (Some k) g = grind (arith, long_key, all_weaker, long_attribute)
 
 small_blocks : {T : ℕ → Bool} (i : SpelledIdentifier) → HasWords T i → (k : Option WrittenKeyword) →
     IfSome k IsSmallKeyword → tail_blocks (spelling (small_written i k)) ≡ keyword_blocks k
@@ -79,15 +129,13 @@ small_rules : {T : ℕ → Bool} (i : SpelledIdentifier) (k : Option WrittenKeyw
     IsWritten T (small_written i k) → IfSome k (λ k. length (normal_values k.values) ≤ 1) →
     IfSome k IsSmallKeyword
 small_rules i None h o = tt
-small_rules i (Some k) h o = let word = h.extensions.0.1.keywords.0 in
-    record { u = h.extensions.0.0; key = word.0; values = word.1; one_value = o }
+small_rules i (Some k) h o = grind arith
 
 pub tree_is_small : {T : ℕ → Bool} (t : Text) (r : SmallLocale) → IsTreeSmall T t r → IsSmall T t r
 tree_is_small {T = T} t r h =
     let g = small_rules h.id h.keyword h.grammatical h.one_value in
     small_by_keyword t r
-    (subst (λ (s : SmallLocale). IsSmallIdentifier T (head (pieces t)) s.id) (sym h.means)
-    (small_identifier_of (head (pieces t)) h.id h.grammatical.id
+    (rw h.means (small_identifier_of (head (pieces t)) h.id h.grammatical.id
     (ap head h.spelled ∙ head-spelling (small_written h.id h.keyword) h.grammatical) h.one_variant))
     (record {
       keyword = h.keyword;

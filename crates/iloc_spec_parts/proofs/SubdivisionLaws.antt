@@ -1,24 +1,71 @@
 -- A subdivision's text is read as it, and what is read has the text in lower case.
-use Rattle.std.proofs.Common.{◌≡◌, ◌≤◌, true, ◌&&◌, ◌==◌, [], ◌∷◌, ◌++◌, length, take-append-drop}
-use Rattle.std.proofs.Common.{length-append, refl, sym, ap, ap₂, ◌∙◌, subst, arith, Some, Result, Ok, ok_or}
-use Rattle.std.proofs.Common.{inl, inr, true≢false, MatchResult}
+use Rattle.std.proofs.Common.{
+  ◌≡◌,
+  ◌≤◌,
+  true,
+  ◌&&◌,
+  ◌==◌,
+  [],
+  ◌∷◌,
+  ◌++◌,
+  length,
+  take-append-drop,
+  length-append,
+  sym,
+  ap,
+  ap₂,
+  ◌∙◌,
+  arith,
+  Some,
+  Ok,
+  ok_or,
+  inl,
+  inr,
+  true≢false,
+  MatchResult,
+}
 use Rattle.std.specs.List.{list_all}
-use Rattle.std.specs.Char.{is_ascii_alphabetic, is_ascii_digit, is_ascii_alphanumeric}
-use Rattle.std.specs.Int.{is_in_range}
+use Rattle.std.specs.Char.{is_ascii_alphanumeric}
 use Rattle.std.proofs.lemmas.Bool.{and_parts, and_from, or_cases, eqb-true, cond_both}
 use Rattle.std.proofs.lemmas.List.Folds.{list_all-append}
 use Rattle.std.proofs.Math.Seq.{take-append_seam, drop-append_seam}
 use Rattle.std.proofs.lemmas.Bool.Decides.{nat_tests}
 use Rattle.std.proofs.lemmas.List.{map-append}
-use Rattle.iloc_spec_grammar.specs.Syntax.{Text, Region, Subtag, SubdivisionSuffix, is_word, IsWord, word}
-use Rattle.iloc_spec_grammar.specs.Syntax.{lower}
-use Rattle.iloc_spec_grammar.specs.Syntax.{upper, letters, digits}
-use Rattle.iloc_spec_grammar.specs.Meaning.{Fault, InvalidExtension}
-use Rattle.iloc_spec_grammar.proofs.WordsLaws.{is_word-lower, is_word-normal, normal-normal, lower-lower}
-use Rattle.iloc_spec_grammar.proofs.WordsLaws.{lower-upper, upper-lower, length-region, every, letter_is}
-use Rattle.iloc_spec_grammar.proofs.WordsLaws.{digit_is, digit_no_letter}
-use Rattle.iloc_spec_parts.specs.Subdivisions.{Subdivision, IsSubdivision, region_length, both_words}
-use Rattle.iloc_spec_parts.specs.Subdivisions.{subdivision, subdivision_text}
+use Rattle.iloc_spec_grammar.specs.Syntax.{
+  Text,
+  Region,
+  Subtag,
+  SubdivisionSuffix,
+  is_word,
+  IsWord,
+  word,
+  lower,
+  upper,
+  letters,
+  digits,
+}
+use Rattle.iloc_spec_grammar.specs.Meaning.{InvalidExtension}
+use Rattle.iloc_spec_grammar.proofs.WordsLaws.{
+  is_word-lower,
+  is_word-normal,
+  normal-normal,
+  lower-lower,
+  lower-upper,
+  upper-lower,
+  length-region,
+  every,
+  letter_is,
+  digit_is,
+  digit_no_letter,
+}
+use Rattle.iloc_spec_parts.specs.Subdivisions.{
+  Subdivision,
+  IsSubdivision,
+  region_length,
+  both_words,
+  subdivision,
+  subdivision_text,
+}
 
 -- regions
 
@@ -32,20 +79,12 @@ region_both r h = elim (or_cases ((length r == 2) && letters r) ((length r == 3)
 region_first : (r x : Text) → IsWord Region r → region_length (r ++ x) ≡ length r
 unfolding is_word
 region_first [] x h = absurd (true≢false (sym h))
-region_first (c ∷ r) x h =
-    elim (or_cases ((length (c ∷ r) == 2) && letters (c ∷ r)) ((length (c ∷ r) == 3) && digits (c ∷ r)) h) [
-      | inl a ↦ let parts = and_parts (length (c ∷ r) == 2) (letters (c ∷ r)) a in
-          rw (and_parts (is_ascii_alphabetic c) (letters r) parts.1).0 (sym (eqb-true _ _ parts.0))
-      | inr a ↦ let parts = and_parts (length (c ∷ r) == 3) (digits (c ∷ r)) a in
-          rw (digit_no_letter c (and_parts (is_ascii_digit c) (digits r) parts.1).0)
-          (sym (eqb-true _ _ parts.0))
-    ]
+region_first (c ∷ r) x h = grind (arith, or_cases, and_parts, eqb-true, digit_no_letter)
 
 suffix_parts : (x : Text) → IsWord SubdivisionSuffix x →
     ((1 ≤ length x) × (length x ≤ 4)) × (list_all is_ascii_alphanumeric x ≡ true)
 unfolding is_word
-suffix_parts x h = let parts = and_parts (is_in_range 1 4 (length x)) (list_all is_ascii_alphanumeric x) h in
-    ((grind (arith, nat_tests), grind (arith, nat_tests)), parts.1)
+suffix_parts x h = grind (arith, and_parts, nat_tests)
 
 -- a region and a suffix are a subtag
 joined_subtag : (r x : Text) → IsWord Region r → IsWord SubdivisionSuffix x → IsWord Subtag (r ++ x)
@@ -59,20 +98,13 @@ joined_subtag r x h k =
 
 read_joined : (r x : Text) → IsWord Region r → IsWord SubdivisionSuffix x →
     subdivision (r ++ x) ≡ Ok (record { region = upper r; suffix = lower x })
-read_joined r x h k =
-    rw (joined_subtag r x h k, region_first r x h, take-append_seam r x, drop-append_seam r x, h, k) refl
+read_joined r x h k = grind (arith, joined_subtag, region_first, take-append_seam, drop-append_seam)
 
 pub subdivision_back : (s : Subdivision) → IsSubdivision s → subdivision (subdivision_text s) ≡ Ok s
-subdivision_back s h = read_joined (lower s.region) (lower s.suffix)
-    (is_word-lower Region s.region ∙ h.region.0) (is_word-lower SubdivisionSuffix s.suffix ∙ h.suffix.0)
-    ∙ (λ i. Ok (record {
-      region = (upper-lower s.region ∙ h.region.1) i;
-      suffix = (lower-lower s.suffix ∙ h.suffix.1) i;
-    }))
+subdivision_back s h = grind (arith, read_joined, is_word-lower, upper-lower, lower-lower)
 
 pub subdivision_is_subtag : (s : Subdivision) → IsSubdivision s → IsWord Subtag (subdivision_text s)
-subdivision_is_subtag s h = joined_subtag (lower s.region) (lower s.suffix)
-    (is_word-lower Region s.region ∙ h.region.0) (is_word-lower SubdivisionSuffix s.suffix ∙ h.suffix.0)
+subdivision_is_subtag s h = search (joined_subtag, is_word-lower)
 
 -- what is read
 
@@ -105,11 +137,10 @@ read_parts w a b e = cond_both (is_word Region a) _ _ (λ o.
     (λ r. tt)
 
 read_of : (w : Text) → MatchResult (subdivision w) (Read w) (λ f. Unit {0})
-read_of w = cond_both (is_word Subtag w) _ _ (λ o. MatchResult o (Read w) (λ f. Unit {0}))
-    (λ h. read_parts w _ _ (take-append-drop (region_length w) w)) (λ h. tt)
+read_of w = grind (arith, cond_both, read_parts, take-append-drop)
 
 read_ok : (w : Text) (s : Subdivision) → subdivision w ≡ Ok s → Read w s
-read_ok w s e = subst (λ (o : Result Subdivision Fault). MatchResult o (Read w) (λ f. Unit {0})) e (read_of w)
+read_ok w s e = rw e at (read_of w)
 
 pub read_is_subdivision : (w : Text) (s : Subdivision) → subdivision w ≡ Ok s → IsSubdivision s
 read_is_subdivision w s e = (read_ok w s e).valid

@@ -1,40 +1,142 @@
 -- The reader of what comes after `t`: the longest front of an identifier, and fields.
-use Rattle.std.proofs.Common.{◌≡◌, ◌↔◌, ℕ, ◌<◌, ◌≤◌, Bool, true, false, cond, ◌&&◌, ◌||◌, nat_lt, List, []}
-use Rattle.std.proofs.Common.{◌∷◌, ◌++◌, length, take, drop, length-append, map, refl, sym, ap, ◌∙◌, subst}
-use Rattle.std.proofs.Common.{arith, Option, Some, None, IfSome, is_some, option_to_list, true≢false}
-use Rattle.std.proofs.Common.{append_assoc, le_antisymm, Result, Err, MatchResult}
+use Rattle.std.proofs.Common.{
+  ◌≡◌,
+  ◌↔◌,
+  ℕ,
+  ◌<◌,
+  ◌≤◌,
+  Bool,
+  true,
+  false,
+  ◌&&◌,
+  ◌||◌,
+  nat_lt,
+  List,
+  [],
+  ◌∷◌,
+  ◌++◌,
+  length,
+  take,
+  drop,
+  length-append,
+  map,
+  refl,
+  sym,
+  ap,
+  ◌∙◌,
+  arith,
+  Option,
+  Some,
+  None,
+  IfSome,
+  is_some,
+  option_to_list,
+  true≢false,
+  append_assoc,
+  le_antisymm,
+  Result,
+  MatchResult,
+}
 use Rattle.std.specs.List.{AllByRecursion, list_all}
 use Rattle.std.proofs.lemmas.Bool.{cond_both, false_from_ne_true, eqb-true}
 use Rattle.std.proofs.lemmas.List.{map-append, take-append-le, take-append-drop}
 use Rattle.std.proofs.Math.Seq.{take-append_seam, drop-append_seam}
-use Rattle.iloc_spec_grammar.specs.Syntax.{LanguageLengths, Field, code_t, Text, Language, Script, Region}
-use Rattle.iloc_spec_grammar.specs.Syntax.{Variant, TransformKey, Attribute}
-use Rattle.iloc_spec_grammar.specs.Syntax.{is_word, IsWord, AreLengths, lower, word_cmp, Spelled}
-use Rattle.iloc_spec_grammar.specs.Syntax.{SpelledIdentifier, Transform, Fields, identifier_pieces}
-use Rattle.iloc_spec_grammar.specs.Syntax.{optional_pieces, fields_pieces, HasWords, IsIdentifier, IsField}
-use Rattle.iloc_spec_grammar.specs.Syntax.{AllDifferent, first_piece, front}
+use Rattle.iloc_spec_grammar.specs.Syntax.{
+  LanguageLengths,
+  Field,
+  code_t,
+  Text,
+  Language,
+  Script,
+  Region,
+  Variant,
+  TransformKey,
+  Attribute,
+  is_word,
+  IsWord,
+  AreLengths,
+  lower,
+  word_cmp,
+  SpelledIdentifier,
+  Transform,
+  Fields,
+  identifier_pieces,
+  optional_pieces,
+  fields_pieces,
+  HasWords,
+  IsIdentifier,
+  IsField,
+  AllDifferent,
+  first_piece,
+  front,
+}
 use Rattle.iloc_spec_grammar.specs.Tree.{transform, IsTransformBlock}
-use Rattle.iloc_spec_grammar.specs.Meaning.{normal_transform, Fault, InvalidSubtag, RepeatsVariant}
+use Rattle.iloc_spec_grammar.specs.Meaning.{normal_transform, Fault, RepeatsVariant}
 use Rattle.iloc_spec_grammar.specs.ByBlocks.{TransformMeans}
-use Rattle.iloc_spec_grammar.specs.Reading.{IdentifierFront, EndsBefore, starts_block, from_block, front_of}
-use Rattle.iloc_spec_grammar.specs.Reading.{after_front, identifier_of, fields_from}
+use Rattle.iloc_spec_grammar.specs.Reading.{
+  IdentifierFront,
+  EndsBefore,
+  starts_block,
+  from_block,
+  front_of,
+  after_front,
+  identifier_of,
+}
 use Rattle.iloc_spec_grammar.proofs.WordsLaws.{length-language, region_no_script, length-transform_key}
 use Rattle.iloc_spec_grammar.proofs.ValuesLaws.{all_weaker, all_both}
 use Rattle.iloc_spec_grammar.proofs.IdentifierLaws.{pieces-identifier_of, one_identifier}
-use Rattle.iloc_spec_grammar.proofs.Readings.{IsLong, IsNoKey, after_language, long_after_language}
-use Rattle.iloc_spec_grammar.proofs.Readings.{long_extension, identifier_no_key, language_no_key, fields_pass}
-use Rattle.iloc_spec_grammar.proofs.Readings.{fields_read}
+use Rattle.iloc_spec_grammar.proofs.Readings.{
+  IsLong,
+  IsNoKey,
+  after_language,
+  long_after_language,
+  long_extension,
+  identifier_no_key,
+  language_no_key,
+  fields_pass,
+  fields_read,
+}
 use Rattle.iloc_spec_grammar.proofs.ReadingLaws.{front_is_front, front-from_block, from_block_starts}
-use Rattle.iloc_spec_grammar.proofs.FaultLaws.{some_repeat, front_variants, after_variants}
-use Rattle.iloc_spec_grammar.proofs.FaultLaws.{front_are_variants, front_longest, read_longer, cut_identifier}
-use Rattle.iloc_spec_grammar.proofs.FaultLaws.{repeats_longer, language_of, script_of, region_of, spell_cut}
+use Rattle.iloc_spec_grammar.proofs.FaultLaws.{
+  some_repeat,
+  front_variants,
+  after_variants,
+  front_are_variants,
+  front_longest,
+  read_longer,
+  cut_identifier,
+  repeats_longer,
+  language_of,
+  script_of,
+  region_of,
+  spell_cut,
+}
 use Rattle.iloc_spec_grammar.specs.Computing.{all_different, is_field}
-use Rattle.iloc_spec_grammar.proofs.RuleTests.{Tests, tests_not, tests_and, tests_all, tests_field}
-use Rattle.iloc_spec_grammar.proofs.RuleTests.{tests_needed, tests_different}
+use Rattle.iloc_spec_grammar.proofs.RuleTests.{
+  Tests,
+  tests_not,
+  tests_and,
+  tests_all,
+  tests_field,
+  tests_needed,
+  tests_different,
+}
 use Rattle.iloc_spec_parts.specs.Readers.{IsReader, AgreesWithBlocks}
-use Rattle.iloc_spec_parts.specs.Fronts.{FrontRead, absent, present, is_field_piece, fields_front}
-use Rattle.iloc_spec_parts.specs.Fronts.{after_fields, TransformRead, TransformFault, repeats, unread}
-use Rattle.iloc_spec_parts.specs.Fronts.{fields_at, fields_result, transform_result}
+use Rattle.iloc_spec_parts.specs.Fronts.{
+  FrontRead,
+  absent,
+  present,
+  is_field_piece,
+  fields_front,
+  after_fields,
+  TransformRead,
+  TransformFault,
+  repeats,
+  unread,
+  fields_at,
+  fields_result,
+  transform_result,
+}
 use Rattle.iloc_spec_parts.proofs.FieldLaws.{all_from_pieces, front_of_fields, fields_stop, pieces_pass}
 use Rattle.iloc_spec_parts.proofs.FrontLaws.{not_attribute}
 use Rattle.iloc_spec_parts.proofs.ReaderLaws.{reader_of, agreeing, until_block, Answers}
@@ -58,7 +160,7 @@ not_longer : (P : Text → Type 0) (xs ys a b : List Text) → xs ++ a ≡ ys ++
     NoFirst P a → length ys ≤ length xs
 not_longer P [] [] a b e h n = omega arith
 not_longer P [] (y ∷ ys) [] b e h n = absurd (cc)
-not_longer P [] (y ∷ ys) (p ∷ a) b e h n = let same : p ≡ y = cc in absurd (n (subst P (sym same) h.0))
+not_longer P [] (y ∷ ys) (p ∷ a) b e h n = grind arith
 not_longer P (x ∷ xs) [] a b e h n = omega arith
 not_longer P (x ∷ xs) (y ∷ ys) a b e h n =
     let tails : xs ++ a ≡ ys ++ b = cc in let l = not_longer P xs ys a b tails h.1 n in omega arith
@@ -67,8 +169,7 @@ not_longer P (x ∷ xs) (y ∷ ys) a b e h n =
 
 pub front_language : {T : ℕ → Bool} (ps : List Text) (i : SpelledIdentifier) (rest : List Text) →
     HasWords T i → ps ≡ identifier_pieces i ++ rest → IsWord (Language T) (first_piece ps)
-front_language {T = T} ps i rest h e =
-    ap (λ (l : List Text). is_word (Language T) (first_piece l)) e ∙ h.language
+front_language {T = T} ps i rest h e = grind arith
 
 pub one_longest : {T : ℕ → Bool} (ps : List Text) (i j : SpelledIdentifier) (rest more : List Text) →
     IdentifierFront T ps i rest → IdentifierFront T ps j more → (i ≡ j) × (rest ≡ more)
@@ -81,10 +182,8 @@ pub one_front : {T : ℕ → Bool} (ps : List Text) {o q : Option SpelledIdentif
     {rest more : List Text} →
     FrontRead T ps o rest → FrontRead T ps q more → (o ≡ q) × (rest ≡ more)
 one_front ps (absent e) (absent k) = (refl, refl)
-one_front ps (absent e) (present g b) =
-    absurd (true≢false (sym (front_language ps _ _ b.words b.spelled) ∙ e))
-one_front ps (present h a) (absent k) =
-    absurd (true≢false (sym (front_language ps _ _ a.words a.spelled) ∙ k))
+one_front ps (absent e) (present g b) = grind (arith, true≢false, front_language)
+one_front ps (present h a) (absent k) = grind (arith, true≢false, front_language)
 one_front ps (present h a) (present g b) = let same = one_longest ps _ _ _ _ a b in (ap Some same.0, same.1)
 
 -- the reading from the left is a longest front
@@ -99,42 +198,30 @@ left_longest l None None [] more hs hr hv = omega arith
 left_longest l (Some s) None [] more hs hr hv = rw hs (omega arith)
 left_longest l None (Some r) [] more hs hr hv = rw (region_no_script r hr, hr) (omega arith)
 left_longest l (Some s) (Some r) [] more hs hr hv = rw (hs, hr) (omega arith)
-left_longest l s r (v ∷ vs) more hs hr hv =
-    let read : cut_identifier
-    (identifier_of ((l ∷ (option_to_list s ++ (option_to_list r ++ (v ∷ vs)))) ++ more))
-    ≡ record { language = l; script = s; region = r; variants = (v ∷ vs) ++ front_variants more } =
-    ap cut_identifier (read_longer l s r v vs more hs hr hv.0)
-    ∙ ap (λ ws. record { language = l; script = s; region = r; variants = ws })
-    (front_longest (v ∷ vs) more hv) in
-    let pieces : identifier_pieces {s = Spelled}
-    (record { language = l; script = s; region = r; variants = (v ∷ vs) ++ front_variants more })
-    ≡ (l ∷ (option_to_list s ++ (option_to_list r ++ (v ∷ vs)))) ++ front_variants more = sym
-    (ap (λ ws. l ∷ ws) (append_assoc (option_to_list s) (option_to_list r ++ (v ∷ vs)) (front_variants more)
-    ∙ ap (λ ws. option_to_list s ++ ws) (append_assoc (option_to_list r) (v ∷ vs) (front_variants more)))) in
-    let total : length (identifier_pieces
-    (cut_identifier (identifier_of ((l ∷ (option_to_list s ++ (option_to_list r ++ (v ∷ vs)))) ++ more))))
-    ≡ length ((l ∷ (option_to_list s ++ (option_to_list r ++ (v ∷ vs)))) ++ front_variants more) =
-    ap (λ i. length (identifier_pieces i)) read ∙ ap length pieces in
-    subst (λ (n : ℕ). length (l ∷ (option_to_list s ++ (option_to_list r ++ (v ∷ vs)))) ≤ n)
-    (sym
-    (total ∙ length-append (l ∷ (option_to_list s ++ (option_to_list r ++ (v ∷ vs)))) (front_variants more)))
-    (omega arith)
+left_longest l s r (v ∷ vs) more hs hr hv = grind (
+  arith,
+  cut_identifier,
+  front_variants,
+  read_longer,
+  front_longest,
+  append_assoc,
+  length-append,
+)
 
 left_front : (T : LanguageLengths) (p : Text) (ps : List Text) → IsWord (Language T) p →
     IdentifierFront T (p ∷ ps) (cut_identifier (identifier_of (p ∷ ps)))
     (after_variants (identifier_of (p ∷ ps)).variants)
-left_front T p ps h = record {
-  words = record {
-    language = subst (IsWord (Language T)) (sym (language_of p ps)) h;
-    script = script_of p ps;
-    region = region_of p ps;
-    variants = front_are_variants _;
-  };
-  spelled = sym (spell_cut (identifier_of (p ∷ ps)) ∙ pieces-identifier_of p ps);
-  longest = λ j more w e. subst (λ (l : List Text).
-      length (identifier_pieces j) ≤ length (identifier_pieces (cut_identifier (identifier_of l))))
-      (sym e) (left_longest j.language j.script j.region j.variants more w.script w.region w.variants);
-}
+left_front T p ps h = grind (
+  arith,
+  language_of,
+  script_of,
+  region_of,
+  front_are_variants,
+  spell_cut,
+  pieces-identifier_of,
+  cut_identifier,
+  left_longest,
+)
 
 no_repeats : {T : ℕ → Bool} (ps : List Text) (j : SpelledIdentifier) (rest : List Text) →
     IsIdentifier T j → IdentifierFront T ps j rest → RepeatsVariant T ps → ⊥
@@ -148,9 +235,9 @@ no_repeats {T = T} (p ∷ ps) j rest h f r =
     ap (λ (i : SpelledIdentifier). i.variants) same.0 ∙ ap front_variants e
     ∙ front_longest r.0.variants r.1 r.2.variants in
     let all : AllDifferent word_cmp (map lower (r.0.variants ++ front_variants r.1)) =
-    subst (λ l. AllDifferent word_cmp (map lower l)) vs h.different in
+    rw vs at h.different in
     r.4 (some_repeat word_cmp (map lower r.0.variants) (map lower (front_variants r.1))
-    (subst (AllDifferent word_cmp) (map-append lower r.0.variants (front_variants r.1)) all))
+    (rw (map-append lower r.0.variants (front_variants r.1)) at all))
 
 -- fields
 
@@ -159,12 +246,12 @@ is_key p = is_word TransformKey p
 
 fields_are : (ps : List Text) (fs : Fields) → AllByRecursion IsField fs →
     fields_front ps ≡ fields_pieces fs → fields_at ps ≡ fs
-fields_are ps fs h e = ap (fields_from is_key) e ∙ fields_read is_key fs (fields_pass fs h)
+fields_are ps fs h e = grind (arith, fields_read, fields_pass)
 
 fields_test : (o : Option SpelledIdentifier) (fs : Fields) →
     Tests (list_all is_field fs && (is_some o || nat_lt 0 (length fs)))
     (AllByRecursion IsField fs × (o ≡ None → 0 < length fs))
-fields_test o fs = tests_and (tests_all is_field IsField tests_field fs) (tests_needed o (length fs))
+fields_test o fs = search (tests_and, tests_all, tests_field, tests_needed)
 
 -- what is read is determined
 
@@ -192,10 +279,9 @@ transform_apart T ps m rest f h (unread n u) = u m rest h
 
 one_transform_fault : (T : LanguageLengths) (ps : List Text) (f g : Fault) → TransformFault T ps f →
     TransformFault T ps g → f ≡ g
-one_transform_fault T ps f g (repeats r) (repeats q) = refl
 one_transform_fault T ps f g (repeats r) (unread n u) = absurd (n r)
 one_transform_fault T ps f g (unread n u) (repeats q) = absurd (n q)
-one_transform_fault T ps f g (unread n u) (unread m v) = refl
+one_transform_fault T ps f g _ _ = refl
 
 -- and what the program gives
 
@@ -225,21 +311,18 @@ fields_answer {T = T} ps o middle h =
     let fields : r.written.fields ≡ fields_at middle =
     sym (fields_are r.middle r.written.fields r.fields r.spelled) ∙ ap fields_at fronts.1 in
     tests_not (fields_test o (fields_at middle)) n (
-      subst (AllByRecursion IsField) fields r.fields,
-      λ e. subst (λ (fs : Fields). 0 < length fs) fields (r.nonempty (fronts.0 ∙ e)),
+      rw fields at r.fields,
+      λ e. rw fields at (r.nonempty (fronts.0 ∙ e)),
     )))
 
 pub no_empty_language : {T : ℕ → Bool} → AreLengths T → is_word (Language T) [] ≡ false
-no_empty_language {T = T} table =
-    false_from_ne_true _ (λ h. let l = table.least 0 (length-language T [] h) in absurd (omega arith))
+no_empty_language {T = T} table = grind (arith, false_from_ne_true, length-language)
 
 pub transform_answer : {T : ℕ → Bool} → AreLengths T →
     Answers (TransformRead T) (TransformFault T) (transform_result T)
 unfolding transform_result
-transform_answer {T = T} table [] = subst (λ b. IsTransformAnswer T [] (cond b
-    (cond (all_different word_cmp (map lower (front_of []).variants))
-    (fields_result (Some (front_of [])) (after_front [])) (Err InvalidSubtag)) (fields_result None [])))
-    (sym (no_empty_language table)) (fields_answer [] None [] (absent (no_empty_language table)))
+transform_answer {T = T} table [] = rw (no_empty_language table)
+    (fields_answer [] None [] (absent (no_empty_language table)))
 transform_answer {T = T} table (p ∷ ps) =
     cond_both (is_word (Language T) p) _ _ (IsTransformAnswer T (p ∷ ps))
     (λ l.
@@ -303,27 +386,24 @@ fields_end (f ∷ fs) rest h e = λ x. true≢false (sym h.0.0 ∙ x.0)
 longest_until : {T : ℕ → Bool} (i j : SpelledIdentifier) (rest more : List Text) → HasWords T j →
     NoFirst IsInside rest → identifier_pieces i ++ rest ≡ identifier_pieces j ++ more →
     length (identifier_pieces j) ≤ length (identifier_pieces i)
-longest_until i j rest more w n e =
-    let tails : after_language i ++ rest ≡ after_language j ++ more = cc in
-    let l = not_longer IsInside (after_language i) (after_language j) rest more tails
-    (all_both IsNoKey IsLong (after_language j) (identifier_no_key j w).1 (long_after_language j w)) n in
-    omega arith
+longest_until i j rest more w n e = grind (
+  arith,
+  after_language,
+  not_longer,
+  all_both,
+  identifier_no_key,
+  long_after_language,
+)
 
 rest_stops : (rest : List Text) → starts_block rest ≡ true →
     EndsBefore is_key rest × EndsBefore is_field_piece rest
 rest_stops [] e = (tt, tt)
-rest_stops (p ∷ ps) e =
-    let one = eqb-true (length p) 1 e in
-    let k = false_from_ne_true (is_word TransformKey p)
-    (λ h. let l = length-transform_key p h in absurd (omega arith)) in
-    (k, λ i. k i || not_attribute p (omega arith) i)
+rest_stops (p ∷ ps) e = grind (arith, eqb-true, false_from_ne_true, length-transform_key, not_attribute)
 
 pub transform_spelled : {T : ℕ → Bool} → (ps rest : List Text) (m : Transform) → TransformMeans T ps m →
     starts_block rest ≡ true → TransformRead T (ps ++ rest) m rest
-transform_spelled {T = T} ps rest m h e = subst (λ (l : List Text). TransformRead T l m rest)
-    (sym
-    (ap (λ l. l ++ rest) h.spelled ∙ append_assoc (optional_pieces h.written.id) (fields_pieces fs) rest))
-    (record {
+transform_spelled {T = T} ps rest m h e = rw (← (sym (ap (λ l. l ++ rest) h.spelled
+    ∙ append_assoc (optional_pieces h.written.id) (fields_pieces fs) rest))) (record {
       written = h.written;
       middle = fields_pieces fs ++ rest;
       id = front_is h.written.id g.id g.nonempty;
@@ -374,13 +454,12 @@ transform_spelled {T = T} ps rest m h e = subst (λ (l : List Text). TransformRe
 
 transform_block : (T : LanguageLengths) (ps : List Text) (m : Transform) → TransformMeans T (front ps) m →
     TransformRead T ps m (from_block ps)
-transform_block T ps m h = subst (λ (l : List Text). TransformRead T l m (from_block ps))
-    (front-from_block ps) (transform_spelled (front ps) (from_block ps) m h (from_block_starts ps))
+transform_block T ps m h = rw (front-from_block ps) at (transform_spelled (front ps) (from_block ps) m h
+    (from_block_starts ps))
 
 pub transform_agrees : (T : LanguageLengths) → AreLengths T →
     AgreesWithBlocks (TransformRead T) (TransformFault T) (TransformMeans T)
-transform_agrees T table = agreeing (TransformRead T) (TransformFault T) (TransformMeans T)
-    (transform_reader T table) (transform_whole T table) (transform_block T)
+transform_agrees T table = search (agreeing, transform_reader, transform_whole, transform_block)
 
 -- variants that repeat, with and without what follows the block
 
@@ -409,7 +488,7 @@ repeats_in_block {T = T} table ps rest s = (repeats_before ps rest, whole ps)
     no_first [] s r = let e = r.3 in absurd (cc)
     no_first (p ∷ ps) s r =
         let heads : p ≡ r.0.language = cc (r.3) in
-        let l = table.least _ (length-language T p (subst (IsWord (Language T)) (sym heads) r.2.language)) in
+        let l = table.least _ (length-language T p (rw heads r.2.language)) in
         let one = eqb-true (length p) 1 s in
         absurd (omega arith)
 
@@ -427,6 +506,6 @@ pub repeats_by_block : (T : LanguageLengths) → AreLengths T → (ps : List Tex
     RepeatsVariant T (front ps) ↔ RepeatsVariant T ps
 repeats_by_block T table ps =
     let same = repeats_in_block table (front ps) (from_block ps) (from_block_starts ps) in (
-      λ r. subst (RepeatsVariant T) (front-from_block ps) (same.0 r),
-      λ r. same.1 (subst (RepeatsVariant T) (sym (front-from_block ps)) r),
+      λ r. rw (front-from_block ps) at (same.0 r),
+      λ r. same.1 (rw (front-from_block ps) r),
     )

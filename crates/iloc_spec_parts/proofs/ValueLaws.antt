@@ -1,8 +1,18 @@
 -- The text of a value is read as it.
 use Rattle.std.proofs.Common.{◌≡◌, ◌≢◌, false, cond, List, [], ◌∷◌, refl, ap, ◌∙◌, Ok, Err}
 use Rattle.std.specs.List.{AllByRecursion, list_all}
-use Rattle.iloc_spec_grammar.specs.Syntax.{Text, pieces, join, IsHyphenFree, Kind, Subtag, Attribute, is_word}
-use Rattle.iloc_spec_grammar.specs.Syntax.{IsWord, lower, is_true}
+use Rattle.iloc_spec_grammar.specs.Syntax.{
+  Text,
+  pieces,
+  join,
+  Kind,
+  Subtag,
+  Attribute,
+  is_word,
+  IsWord,
+  lower,
+  is_true,
+}
 use Rattle.iloc_spec_grammar.specs.Meaning.{normal_values, InvalidSubtag, InvalidExtension}
 use Rattle.iloc_spec_grammar.specs.Values.{IsNormal, spelled_value}
 use Rattle.iloc_spec_grammar.proofs.PiecesLaws.{pieces-join}
@@ -13,7 +23,7 @@ use Rattle.iloc_spec_grammar.proofs.RuleTests.{tests_all, tests_word}
 
 cut : (k : Kind) (w : Text) (ws : List Text) → AllByRecursion (IsWord k) (w ∷ ws) →
     pieces (join (w ∷ ws)) ≡ w ∷ ws
-cut k w ws h = pieces-join w ws (all_weaker (IsWord k) IsHyphenFree (word_hyphen_free k) (w ∷ ws) h)
+cut k w ws h = search (pieces-join, all_weaker, word_hyphen_free)
 
 no_empty : IsWord Subtag [] → ⊥
 unfolding is_word

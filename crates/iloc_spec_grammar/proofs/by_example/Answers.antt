@@ -1,8 +1,15 @@
 -- By computing each.
 use Rattle.std.proofs.Common.{[], refl, codes}
-use Rattle.iloc_spec_grammar.proofs.Examples.{answer, identifier_answer, normalises, refused}
-use Rattle.iloc_spec_grammar.proofs.Examples.{normalises_identifier, refused_identifier}
-use Rattle.iloc_spec_grammar.proofs.Examples.{same_key_in_two_cases, one_true_stays}
+use Rattle.iloc_spec_grammar.proofs.Examples.{
+  answer,
+  identifier_answer,
+  normalises,
+  refused,
+  normalises_identifier,
+  refused_identifier,
+  same_key_in_two_cases,
+  one_true_stays,
+}
 use Rattle.iloc_spec_grammar.proofs.by_example.Goals as goal
 
 pub returns : goal.returns

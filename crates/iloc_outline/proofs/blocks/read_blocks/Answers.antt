@@ -1,8 +1,8 @@
-use Rattle.std.proofs.Common.{◌≡◌, inl, inr, ℕ, List, [], true, sym, ap, ◌∙◌, subst}
+use Rattle.std.proofs.Common.{arith, ◌≡◌, inl, inr, ℕ, List, [], true, sym, ap, ◌∙◌, subst}
 use Rattle.std.specs.Char.{is_ascii_alphanumeric}
 use Rattle.iloc_spec_grammar.specs.Syntax.{Text}
 use Rattle.iloc_outline.specs.Blocks.{IsBlockRead}
-use Rattle.iloc_pieces.specs.Cursor.{piece_left, pieces_left, whole_text}
+use Rattle.iloc_pieces.specs.Cursor.{pieces_left, whole_text}
 use Rattle.iloc_outline.specs.Parts.{rank}
 use Rattle.iloc_outline.specs.declared.reading.Found.{Found}
 use Rattle.iloc_outline.specs.declared.reading.Found.TheVariants.{Bad, End, Full, Next, Repeated}
@@ -12,9 +12,14 @@ use Rattle.iloc_pieces.proofs.CursorLemmas.{last_piece, single_short}
 use Rattle.iloc_outline.proofs.SingletonSteps as at
 use Rattle.iloc_outline.proofs.blocks.read_blocks.Given.{Over}
 use Rattle.iloc_outline.proofs.blocks.read_blocks.Goals as goal
-use Rattle.iloc_outline.proofs.blocks.read_blocks.Goals.{After-read_body-found, Joined-rank-last-2}
-use Rattle.iloc_outline.proofs.blocks.read_blocks.Goals.{else-rank-last, else-rank-last-2}
-use Rattle.iloc_outline.proofs.blocks.read_blocks.Goals.{then-rank-last+else-has_block, then-rank-last-2}
+use Rattle.iloc_outline.proofs.blocks.read_blocks.Goals.{
+  After-read_body-found,
+  Joined-rank-last-2,
+  else-rank-last,
+  else-rank-last-2,
+  then-rank-last+else-has_block,
+  then-rank-last-2,
+}
 
 pub singletons-init : goal.singletons-init
 singletons-init g c =
@@ -50,8 +55,7 @@ returns-then-is_last g c =
           c.if-rank-last.in_order w.in_order-is
     ] in
     at.refuses_end h letter fresh.new
-    (last_piece c.singletons.cursor (c.is_last.ensures.0 c.if-is_last.true)
-    (single_short (piece_left c.singletons.cursor) h.single))
+    (grind (arith, last_piece, single_short))
 
 pub read_body-found-requires-clause-singleton : goal.read_body-found-requires-clause-singleton
 read_body-found-requires-clause-singleton g c =
@@ -65,12 +69,12 @@ IsReadAs g c r = IsBlockRead (at.byte_at c.singletons.invariant) c.advance.new.c
     c.read_body-found.new.spans c.if-rank-last.in_order c.read_body-found.new.in_order r
 
 read_as : (g : Over) (c : After-read_body-found g) (r : Found) → c.read_body-found.result ≡ r → IsReadAs g c r
-read_as g c r e = subst (IsReadAs g c) e
-    (c.read_body-found.ensures (at.byte_at c.singletons.invariant) (sym c.singleton-byte.ensures)
+read_as g c r e = rw e at (c.read_body-found.ensures (at.byte_at c.singletons.invariant)
+    (sym c.singleton-byte.ensures)
     (at.spanned_at c.singletons.invariant c.advance.ensures))
 
 rank_is : (g : Over) (c : After-read_body-found g) → c.rank_of-rank.result ≡ at.rank_at c.singletons.invariant
-rank_is g c = c.rank_of-rank.ensures ∙ ap rank c.singleton-byte.ensures
+rank_is g c = grind arith
 
 -- the singleton is passed
 passed : (g : Over) (c : After-read_body-found g)
@@ -135,13 +139,11 @@ put : (g : Over) (c : Joined-rank-last-2 g) →
     → IsPut g c rest c.if-rank-last-2.last c.if-rank-last-2.spans
 put g c x e rest r = elim c.if-rank-last-2.branch [
   | then-rank-last-2 w ↦
-      subst (λ top. IsPut g c rest top c.if-rank-last-2.spans) (sym w.last-is)
-      (subst (IsPut g c rest c.singletons.last) (sym w.spans-is)
+      rw w.last-is (subst (IsPut g c rest c.singletons.last) (sym w.spans-is)
       (at.comes_before c.singletons.invariant x rest r c.rank_of-rank.result e w.if-rank-last-2.true
       w.place_block.new.spans w.place_block.ensures.same w.place_block.ensures.placed))
   | else-rank-last-2 w ↦
-      subst (λ top. IsPut g c rest top c.if-rank-last-2.spans) (sym w.last-is)
-      (subst (IsPut g c rest c.rank_of-rank.result) (sym w.spans-is)
+      rw w.last-is (subst (IsPut g c rest c.rank_of-rank.result) (sym w.spans-is)
       (at.stays_last c.singletons.invariant x rest r c.rank_of-rank.result e w.if-rank-last-2.false))
 ]
 

@@ -8,13 +8,23 @@ use Rattle.iloc_spans.specs.Spans.{held_spans}
 use Rattle.iloc_spans.proofs.HeldLemmas.{length-held}
 use Rattle.iloc_outline.specs.declared.fields.FieldValue.{FieldValue}
 use Rattle.iloc_pieces.specs.declared.place.Cursor.{Cursor}
-use Rattle.iloc_outline.proofs.FieldLemmas.{ends_in_key, field_less, key_kind_fits, takes_end}
-use Rattle.iloc_outline.proofs.FieldLemmas.{takes_full, takes_more, takes_none, takes_past}
+use Rattle.iloc_outline.proofs.FieldLemmas.{
+  ends_in_key,
+  field_less,
+  key_kind_fits,
+  takes_end,
+  takes_full,
+  takes_more,
+  takes_none,
+  takes_past,
+}
 use Rattle.iloc_outline.proofs.GatherLemmas.{gathers_from}
 use Rattle.iloc_outline.proofs.RoleLemmas.{short_key_kind}
 use Rattle.iloc_outline.proofs.fields.read_fields.Goals as goal
-use Rattle.iloc_outline.proofs.fields.read_fields.Goals.{else-eq-via-then-eq+else-value-eq0}
-use Rattle.iloc_outline.proofs.fields.read_fields.Goals.{else-eq-via-else-eq}
+use Rattle.iloc_outline.proofs.fields.read_fields.Goals.{
+  else-eq-via-then-eq+else-value-eq0,
+  else-eq-via-else-eq,
+}
 
 abbrev behind : Cursor → Bool → Option Cursor
 behind m b = unless_end b m
@@ -26,16 +36,13 @@ ends : (m : Cursor) (v : FieldValue) → v.is_end ≡ true → unless_end v.is_e
 ends m v = ap (behind m)
 
 pub keys-init : goal.keys-init
-keys-init g c =
-    takes_none c.args.role c.args.cursor.now c.requires.later (held_spans c.args.spans.now)
-    c.args.in_order.now
+keys-init g c = search takes_none
 
 pub read_value-value-requires-clause-later : goal.read_value-value-requires-clause-later
 read_value-value-requires-clause-later g c = c.keys.invariant.past.later
 
 pub read_value-value-requires-clause-short : goal.read_value-value-requires-clause-short
-read_value-value-requires-clause-short g c =
-    short_key_kind c.args.role _ (sym c.is_key_of.ensures ∙ c.keys-test.true)
+read_value-value-requires-clause-short g c = grind (arith, short_key_kind)
 
 pub returns-then-value-eq0 : goal.returns-then-value-eq0
 returns-then-value-eq0 g c =
@@ -50,8 +57,7 @@ returns-then-value-eq0 g c =
     )
 
 pub word_number-word-requires : goal.word_number-word-requires
-word_number-word-requires g c =
-    key_kind_fits c.args.role _ (sym c.is_key_of.ensures ∙ c.keys-test.true)
+word_number-word-requires g c = grind (arith, key_kind_fits)
 
 pub put_from-requires : goal.put_from-requires
 put_from-requires g c =
@@ -97,13 +103,7 @@ returns-then-value g c =
     (ends v.new.cursor v.result c.if-value.true)
 
 pub keys-smaller : goal.keys-smaller
-keys-smaller g c =
-    let v = c.read_value-value in
-    field_less c.args.role c.args.cursor.now c.keys.cursor c.args.spans.now _ _ _ _ c.keys.invariant
-    v.new.cursor
-    v.result
-    v.ensures
-    v.new.cursor (goes_on v.new.cursor v.result c.if-value.false)
+keys-smaller g c = search (field_less, goes_on)
 
 pub returns : goal.returns
 returns g c =

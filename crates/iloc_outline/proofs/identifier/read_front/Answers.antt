@@ -1,5 +1,5 @@
+use Rattle.std.proofs.Common.{arith}
 use Rattle.std.proofs.Common.{◌≡◌, ◌==◌, ◌&&◌, Bool, true, false, None, Some, cond, sym, ap, subst, ◌∙◌}
-use Rattle.iloc_pieces.specs.Cursor.{piece_left}
 use Rattle.iloc_pieces.specs.declared.place.Cursor.{Cursor}
 use Rattle.iloc_outline.specs.Identifier.{IsOnePast}
 use Rattle.iloc_outline.specs.Reading.{unless_end}
@@ -18,7 +18,7 @@ goes_on : (fits : Bool) (l m : Cursor) (r : Bool) → r ≡ false → IsOnePast 
 goes_on fits l m r = subst (λ (b : Bool). IsOnePast fits l (unless_end b m))
 
 pub ends_at-requires : goal.ends_at-requires
-ends_at-requires c = λ _. short_language (piece_left c.args.cursor.now) c.requires
+ends_at-requires c = search short_language
 
 pub returns-then-ends_at : goal.returns-then-ends_at
 returns-then-ends_at c =
@@ -27,8 +27,7 @@ returns-then-ends_at c =
     (front_alone l (ends true l c.ends_at.new.cursor _ c.if-ends_at.true c.ends_at.ensures))
 
 pub ends_at-requires-2 : goal.ends_at-requires-2
-ends_at-requires-2 c =
-    λ is. short_script (piece_left c.ends_at.new.cursor) (sym c.is_script-has_script.ensures ∙ is)
+ends_at-requires-2 c = grind (arith, short_script)
 
 pub returns-then-ends_at-2 : goal.returns-then-ends_at-2
 returns-then-ends_at-2 c =
@@ -42,8 +41,7 @@ returns-then-ends_at-2 c =
     (ends has.result second c.ends_at-2.new.cursor _ c.if-ends_at-2.true c.ends_at-2.ensures))
 
 pub ends_at-requires-3 : goal.ends_at-requires-3
-ends_at-requires-3 c =
-    λ is. short_region (piece_left c.ends_at-2.new.cursor) (sym c.is_region-has_region.ensures ∙ is)
+ends_at-requires-3 c = grind (arith, short_region)
 
 pub returns-then-ends_at-3 : goal.returns-then-ends_at-3
 returns-then-ends_at-3 c =

@@ -1,11 +1,22 @@
 -- Pieces of two to eight bytes up to the next block, of which one is a subtag.
-use Rattle.std.proofs.Common.{◌≡◌, ◌+◌, ◌-◌, true, [], refl, sym, ap, ◌∙◌}
+use Rattle.std.proofs.Common.{arith, ◌≡◌, ◌+◌, ◌-◌, true, sym, ap, ◌∙◌}
 use Rattle.iloc_spec_grammar.specs.Syntax.{is_other_singleton}
 use Rattle.iloc_pieces.specs.Cursor.{IsEnd, piece_left}
 use Rattle.iloc_outline.specs.declared.reading.Found.TheVariants.{End, Next}
 use Rattle.iloc_pieces.proofs.CursorLemmas.{between_short, last_piece, past_none}
-use Rattle.iloc_outline.proofs.OtherLemmas.{IsBetween, PassesOneMore, end_bad, end_put, more_odd, more_subtag}
-use Rattle.iloc_outline.proofs.OtherLemmas.{next_bad, next_odd, next_put, other_next, put_at}
+use Rattle.iloc_outline.proofs.OtherLemmas.{
+  IsBetween,
+  PassesOneMore,
+  end_bad,
+  end_put,
+  more_odd,
+  more_subtag,
+  next_bad,
+  next_odd,
+  next_put,
+  other_next,
+  put_at,
+}
 use Rattle.iloc_outline.proofs.other.read_other.Given.{Over}
 use Rattle.iloc_outline.proofs.other.read_other.Goals as goal
 use Rattle.iloc_outline.proofs.other.read_other.Goals.{
@@ -36,36 +47,16 @@ one_more g c = elim c.if-is_subtag.branch [
 ]
 
 pub pieces-init : goal.pieces-init
-pieces-init g c = record {
-  passed = record {
-    words =
-        [];
-    past = past_none c.args.cursor.now c.requires.follows.later;
-    are =
-        record { each = tt; good = refl; edited = refl };
-  };
-  spans = refl;
-  in_order = refl;
-}
+pieces-init g c = search past_none
 
 pub advance-requires-clause-short : goal.advance-requires-clause-short
-advance-requires-clause-short g c =
-    between_short (piece_left c.pieces.cursor) (sym c.is_between.ensures ∙ c.pieces-test.true)
+advance-requires-clause-short g c = grind (arith, between_short)
 
 pub pieces-preserved : goal.pieces-preserved
-pieces-preserved g c = record {
-  passed =
-      other_next c.args.cursor.now c.pieces.cursor c.advance.new.cursor c.if-is_subtag.is_good
-      c.if-is_subtag.edited
-      (one_more g (goal.at.pieces-preserved g c).After-is_last)
-      (between g (goal.at.pieces-preserved g c).After-is_last) c.advance.ensures;
-  spans = c.pieces.invariant.spans;
-  in_order = c.pieces.invariant.in_order;
-}
+pieces-preserved g c = search (other_next, one_more, between)
 
 ended : (g : Over) (c : After-is_last g) → c.is_last.result ≡ true → IsEnd c.pieces.cursor
-ended g c last = last_piece c.pieces.cursor (c.is_last.ensures.0 last)
-    (between_short (piece_left c.pieces.cursor) (between g c))
+ended g c last = grind (arith, last_piece, between_short, between)
 
 pub returns-then-not-is_good : goal.returns-then-not-is_good
 returns-then-not-is_good g c = λ c' e spanned.

@@ -1,5 +1,5 @@
 -- Private subtags up to the end, one at least.
-use Rattle.std.proofs.Common.{◌+◌, false, [], ◌∷◌, ◌++◌, refl, sym, ap, ◌∙◌}
+use Rattle.std.proofs.Common.{arith, ◌+◌, false, [], ◌∷◌, ◌++◌, sym, ap, ◌∙◌}
 use Rattle.iloc_spec_grammar.specs.Syntax.{PrivateSubtag, IsWord}
 use Rattle.iloc_pieces.specs.Cursor.{IsEnd, piece_left}
 use Rattle.iloc_outline.specs.Reading.{block_span}
@@ -10,11 +10,7 @@ use Rattle.iloc_outline.proofs.OtherLemmas.{private_end, private_next, private_o
 use Rattle.iloc_outline.proofs.other.read_private.Goals as goal
 
 pub words-init : goal.words-init
-words-init g c = record {
-  passed = record { words = []; past = past_none c.args.cursor.now c.requires.follows.later; each = tt };
-  spans =
-      refl;
-}
+words-init g c = search past_none
 
 pub returns-then-is_last : goal.returns-then-is_last
 returns-then-is_last g c = λ c' e spanned o.
@@ -30,8 +26,7 @@ returns-then-is_last g c = λ c' e spanned o.
     (c.put.ensures.put c.if-not-put.false ∙ ap (λ s. held_spans s ++ span ∷ []) c.words.invariant.spans)
 
 pub advance-requires-clause-short : goal.advance-requires-clause-short
-advance-requires-clause-short g c =
-    short_private (piece_left c.words.cursor) (sym c.is_private.ensures ∙ c.words-test.true)
+advance-requires-clause-short g c = grind (arith, short_private)
 
 pub words-preserved : goal.words-preserved
 words-preserved g c = record {

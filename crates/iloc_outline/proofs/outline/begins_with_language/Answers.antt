@@ -1,6 +1,5 @@
 -- What follows the bytes in a longer window changes nothing.
-use Rattle.std.proofs.Common.{◌≡◌, ◌≤◌, ◌++◌, length, take, sym, ap, subst, ◌∙◌, arith}
-use Rattle.std.proofs.Common.{length-append}
+use Rattle.std.proofs.Common.{◌≡◌, ◌≤◌, ◌++◌, length, take, sym, ap, ◌∙◌, arith, length-append}
 use Rattle.std.proofs.lemmas.List.{take-append-le}
 use Rattle.iloc_spec_grammar.specs.Syntax.{Text, Language, languages, first_piece, is_word, pieces}
 use Rattle.iloc_pieces.specs.Front.{IsFirst}
@@ -15,7 +14,7 @@ returns c =
     let many : 16 ≤ length w = omega (arith, c.if-window-lt16.false) in
     let wide : take k (w ++ w) ≡ take k w = take-append-le k w w c.requires in
     let first : IsFirst (take k (w ++ w)) n =
-    subst (λ (x : Text). IsFirst x n) (sym wide) c.first_len.ensures in
+    rw wide c.first_len.ensures in
     let is : is_word (Language languages) (first_piece (pieces (take k w))) ≡ c.is_language.result =
     ap (λ (x : Text). is_word (Language languages) (first_piece (pieces x))) (sym wide)
     ∙ word_of_first (w ++ w) k n (omega (arith, c.requires, many, length-append w w)) first

@@ -1,25 +1,19 @@
 -- Variants up to the end or to a block, or what is wrong.
-use Rattle.std.proofs.Common.{◌≡◌, Bool, true, false, sym, ◌∙◌, subst}
+use Rattle.std.proofs.Common.{arith, ◌≡◌, true, false, sym, ◌∙◌}
 use Rattle.iloc_pieces.specs.declared.place.Cursor.{Cursor}
 use Rattle.iloc_outline.specs.Identifier.{IsAfterFront, IsFrontRead}
-use Rattle.iloc_outline.specs.Reading.{AreWordsRead, unless_end}
+use Rattle.iloc_outline.specs.Reading.{unless_end}
 use Rattle.iloc_outline.specs.declared.identifier.Front.{Front}
-use Rattle.iloc_spans.specs.declared.span.Role.TheVariants.{Variant}
 use Rattle.iloc_outline.proofs.HeadLemmas.{head_block, head_front, head_other, head_stranger, head_variants}
 use Rattle.iloc_outline.proofs.outline.read_head.Goals as goal
 
 -- something follows the front
 goes_on : (l m : Cursor) (f : Front) → IsFrontRead l m f → f.is_all ≡ false →
     IsAfterFront l (unless_end false m)
-goes_on l m f h e = subst (λ (b : Bool). IsAfterFront l (unless_end b m)) e h.next
+goes_on l m f h e = grind arith
 
 pub returns-then-front : goal.returns-then-front
-returns-then-front g c =
-    let l = c.args.cursor.now in
-    let front = c.read_front-front in
-    head_front l front.result c.requires.first c.requires.begins front.new.cursor front.ensures
-    c.clear.new.self c.clear.ensures
-    (subst (λ (b : Bool). IsAfterFront l (unless_end b front.new.cursor)) c.if-front.true front.ensures.next)
+returns-then-front g c = grind (arith, head_front)
 
 pub returns-in-End : goal.returns-in-End
 returns-in-End g c =
@@ -29,8 +23,7 @@ returns-in-End g c =
     head_variants l front.result c.requires.first c.requires.begins front.new.cursor
     front.ensures (goes_on l front.new.cursor front.result front.ensures c.if-front.false)
     c.clear.new.self c.clear.ensures words.new.cursor words.new.spans words.new.in_order
-    (subst (AreWordsRead Variant front.new.cursor words.new.cursor c.clear.new.self words.new.spans true
-    words.new.in_order) c.in-End.is words.ensures)
+    (rw c.in-End.is at words.ensures)
 
 pub returns-else-not-is_single : goal.returns-else-not-is_single
 returns-else-not-is_single g c =
@@ -40,8 +33,7 @@ returns-else-not-is_single g c =
     head_block l front.result c.requires.first c.requires.begins front.new.cursor
     front.ensures (goes_on l front.new.cursor front.result front.ensures c.if-front.false)
     c.clear.new.self c.clear.ensures words.new.cursor words.new.spans words.new.in_order
-    (subst (AreWordsRead Variant front.new.cursor words.new.cursor c.clear.new.self words.new.spans true
-    words.new.in_order) c.in-Next.is words.ensures)
+    (rw c.in-Next.is at words.ensures)
     (sym c.is_single.ensures ∙ c.if-not-is_single.false)
 
 pub returns-then-not-is_single : goal.returns-then-not-is_single
@@ -52,16 +44,8 @@ returns-then-not-is_single g c =
     head_stranger l front.result c.requires.first c.requires.begins front.new.cursor
     front.ensures (goes_on l front.new.cursor front.result front.ensures c.if-front.false)
     c.clear.new.self c.clear.ensures words.new.cursor words.new.spans words.new.in_order
-    (subst (AreWordsRead Variant front.new.cursor words.new.cursor c.clear.new.self words.new.spans true
-    words.new.in_order) c.in-Next.is words.ensures)
+    (rw c.in-Next.is at words.ensures)
     (sym c.is_single.ensures ∙ c.if-not-is_single.true)
 
 pub returns-in-Bad : goal.returns-in-Bad
-returns-in-Bad g c =
-    let l = c.args.cursor.now in
-    let front = c.read_front-front in
-    let words = c.read_words in
-    head_other l front.result c.requires.first c.requires.begins front.new.cursor
-    front.ensures (goes_on l front.new.cursor front.result front.ensures c.if-front.false)
-    c.clear.new.self c.clear.ensures words.new.cursor words.new.spans words.new.in_order words.result
-    words.ensures c.in-Bad.is
+returns-in-Bad g c = search (head_other, goes_on)

@@ -1,7 +1,7 @@
 use Rattle.std.proofs.Common.{length, take, sym, ap, ◌∙◌, arith}
 use Rattle.std.proofs.lemmas.List.{length-append, length-take-le}
 use Rattle.iloc_spec_grammar.specs.Syntax.{dashes}
-use Rattle.iloc_pieces.specs.Cursor.{pieces_left, bytes_left}
+use Rattle.iloc_pieces.specs.Cursor.{pieces_left}
 use Rattle.iloc_outline.specs.Printing.{kept_pieces}
 use Rattle.iloc_spec_grammar.specs.Reading.{rest_of}
 use Rattle.iloc_pieces.proofs.CursorLemmas.{last_piece}
@@ -46,12 +46,7 @@ pieces-preserved-then-is_kept c =
     }
 
 pub returns-clause-copied : goal.returns-clause-copied
-returns-clause-copied c =
-    let h = c.pieces.invariant in
-    kept_all c.args.role c.pieces.at
-    (last_piece c.pieces.at (c.is_last.ensures.0 c.pieces-test.false)
-    (first_short (bytes_left c.pieces.at) h.short)) (take c.args.start c.args.to.now)
-    (dashes (kept_pieces c.args.role (rest_of (pieces_left c.args.first)))) c.pieces.to c.pieces.end h.all
+returns-clause-copied c = grind (arith, kept_all, last_piece, first_short)
 
 pub returns-clause-end : goal.returns-clause-end
 returns-clause-end c =

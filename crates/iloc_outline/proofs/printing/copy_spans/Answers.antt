@@ -1,7 +1,6 @@
-use Rattle.std.proofs.Common.{◌≡◌, List, ◌++◌, flat_map, take, ap, sym, subst, ◌∙◌, arith}
+use Rattle.std.proofs.Common.{◌≡◌, List, take, arith}
 use Rattle.std.specs.List.{AllZip}
 use Rattle.std.proofs.lemmas.List.{length-take-le, take_all}
-use Rattle.iloc_outline.specs.Printing.{span_text}
 use Rattle.iloc_spec_grammar.specs.Syntax.{Text}
 use Rattle.iloc_outline.specs.Parts.{Part}
 use Rattle.iloc_outline.specs.Spans.{IsSpan, Spell}
@@ -15,7 +14,7 @@ use Rattle.iloc_outline.proofs.printing.copy_spans.Goals as goal
 -- the spans as a slice are those parts too
 spelled : (t : Text) (spans : Spans) (ps : List Part) (ss : List Span) → ss ≡ held_spans spans
     → Spell t spans ps → AllZip (IsSpan t) ss ps
-spelled t spans ps ss e h = subst (λ (xs : List Span). AllZip (IsSpan t) xs ps) (sym e) h
+spelled t spans ps ss e h = rw e h
 
 pub copy_span-end-requires-clause-ascends : goal.copy_span-end-requires-clause-ascends
 copy_span-end-requires-clause-ascends c =
@@ -60,11 +59,4 @@ copy_span-end-requires-clause-room c =
     )
 
 pub returns-clause-copied : goal.returns-clause-copied
-returns-clause-copied c = λ ps s.
-    let w = c.args.window.now in
-    let held = c.as_slice-held.result.now in
-    c.loop-i.invariant.copied
-    ∙ ap (λ ss. take c.args.start c.args.to.now ++ flat_map (span_text w) ss)
-    (take_all c.loop-i.i held (omega (arith, c.loop-i-test.false)))
-    ∙ ap (λ t. take c.args.start c.args.to.now ++ t)
-    (spans_are w held ps (spelled w c.args.spans.now ps _ c.as_slice-held.ensures s))
+returns-clause-copied c = grind (arith, take_all, spans_are, spelled)

@@ -1,9 +1,7 @@
 -- Attributes and keywords up to the next block, or what is wrong.
-use Rattle.std.proofs.Common.{◌≡◌, false, sym, ◌∙◌, subst}
+use Rattle.std.proofs.Common.{◌≡◌, false, sym, ◌∙◌}
 use Rattle.iloc_spec_grammar.specs.Syntax.{is_one_byte}
 use Rattle.iloc_pieces.specs.Cursor.{piece_left}
-use Rattle.iloc_outline.specs.Reading.{AreWordsRead}
-use Rattle.iloc_spans.specs.declared.span.Role.TheVariants.{Attribute}
 use Rattle.iloc_outline.proofs.UnicodeLemmas.{unicode_single, words_alone, words_read}
 use Rattle.iloc_outline.proofs.unicode.read_unicode.Goals as goal
 use Rattle.iloc_outline.proofs.unicode.read_unicode.Goals.{in-Next, in_default}
@@ -27,9 +25,7 @@ returns g c = λ c' e spanned.
           c.args.in_order.now put c.read_words.new.cursor w.read_fields-found.new.cursor
           c.read_words.new.spans w.read_fields-found.new.spans c.read_words.new.in_order
           w.read_fields-found.new.in_order w.read_fields-found.result c.at_block.result
-          (subst (AreWordsRead Attribute c.args.cursor.now c.read_words.new.cursor c.put.new.spans
-          c.read_words.new.spans c.args.in_order.now c.read_words.new.in_order) w.in-Next.is
-          c.read_words.ensures)
+          (rw w.in-Next.is at c.read_words.ensures)
           w.read_fields-found.ensures (rw (sym w.cursor-is, sym w.found-is) c.at_block.ensures))
       | in_default w ↦
           rw (w.spans-is, w.in_order-is, w.cursor-is)

@@ -1,21 +1,41 @@
+use Rattle.std.proofs.Common.{
+  arith,
+  rules,
+  ◌≡◌,
+  ◌≢◌,
+  ◌++◌,
+  false,
+  length,
+  take,
+  drop,
+  ap,
+  ◌∙◌,
+  sym,
+  subst,
+  inl,
+  inr,
+  refl,
+}
 use Rattle.std.specs.Prelude.{⊤}
-use Rattle.std.proofs.Common.{rules, ◌≡◌, ◌≢◌, ◌+◌, ◌++◌, false, length, take, drop, ap, ◌∙◌, sym, subst, inl}
-use Rattle.std.proofs.Common.{inr, refl}
 use denote.Enum.Bare.{same_false, same_true}
 use Rattle.iloc_spans.specs.contracts.span.Role.{the_type}
 use Rattle.iloc_spans.specs.Group.{group_spans}
-use Rattle.iloc_spans.specs.Inserting.{IsPutFrom, spans_in_order}
-use Rattle.iloc_outline.specs.Reading.{AreWordsRead}
+use Rattle.iloc_spans.specs.Inserting.{spans_in_order}
 use Rattle.iloc_spans.specs.Spans.{held_spans}
 use Rattle.iloc_spans.specs.declared.span.Role.{Role}
-use Rattle.iloc_spans.specs.declared.span.Span.{Span}
 use Rattle.iloc_spans.specs.declared.inserting.Inserted.{Inserted}
 use Rattle.iloc_spans.specs.declared.inserting.Inserted.TheVariants.{Put, There, Full}
 use Rattle.iloc_outline.proofs.GroupSteps.{grouped_put_from, walks_out}
 use Rattle.iloc_outline.proofs.RoleLemmas.{short_kind}
 use Rattle.iloc_spans.proofs.HeldLemmas.{length-held}
-use Rattle.iloc_outline.proofs.WordsInOrder.{IsKept, walks_end, walks_full, walks_more, walks_past}
-use Rattle.iloc_outline.proofs.WordsInOrder.{walks_repeat}
+use Rattle.iloc_outline.proofs.WordsInOrder.{
+  IsKept,
+  walks_end,
+  walks_full,
+  walks_more,
+  walks_past,
+  walks_repeat,
+}
 use Rattle.iloc_outline.proofs.words.read_more_words.Goals as goal
 use Rattle.iloc_outline.proofs.words.read_more_words.Goals.{in-Put, in-There+else-eq}
 
@@ -34,10 +54,10 @@ put_full e = subst has_room e tt
 not_full : (r : Role) (i : Inserted) → IsKept r i → i ≢ Full
 not_full r Put may e = put_full e
 not_full r There may e = there_full e
-not_full r Full may e = elim may [ inl p ↦ put_full (sym p) | inr b ↦ there_full (sym b.0) ]
+not_full r Full may e = grind (arith, put_full, there_full)
 
 pub returns-in_default : goal.returns-in_default
-returns-in_default c = λ first old last o n is w. walks_full _ _ _ old _ _ _ _ w c.requires.many
+returns-in_default c = search walks_full
 
 pub words-init : goal.words-init
 words-init c = (
@@ -56,9 +76,8 @@ returns-then-eq c = λ first old last o n is w.
     let h = c.words.invariant.1 first old last o n is w in
     let F = held_spans c.words.spans in
     let word = sym c.fits.ensures ∙ c.words-test.true in
-    let put = subst (λ (s : Span). IsPutFrom old.count s (F ++ group_spans c.words.group)
-    (F ++ group_spans c.put.new.self) h.1.0 (h.1.0 + s.word) false false c.put.result) c.span_of.ensures
-    (grouped_put_from old.count c.span_of.result F (group_spans c.words.group) (group_spans c.put.new.self)
+    let put = rw c.span_of.ensures at (grouped_put_from old.count c.span_of.result F
+    (group_spans c.words.group) (group_spans c.put.new.self)
     h.1.0 c.put.result (ap length h.0 ∙ length-held old) (λ f. there_full (sym c.in-There.is ∙ f))
     c.put.ensures) in (
       same_true the_type (search rules) _ _ (sym c.eq.ensures ∙ c.if-eq.true),
@@ -67,7 +86,7 @@ returns-then-eq c = λ first old last o n is w.
     )
 
 pub returns-in-Full : goal.returns-in-Full
-returns-in-Full c = λ first old last o n is w. walks_full _ _ _ old _ _ _ _ w c.requires.many
+returns-in-Full c = search walks_full
 
 pub returns-then-is_last : goal.returns-then-is_last
 returns-then-is_last c = λ first old last o n is w.
@@ -78,23 +97,20 @@ returns-then-is_last c = λ first old last o n is w.
     let h = c.words.invariant.1 first old last o n is w in
     let F = held_spans c.words.spans in
     let word = sym c.fits.ensures ∙ c.words-test.true in
-    let put = subst (λ (s : Span). IsPutFrom old.count s (F ++ group_spans c.words.group)
-    (F ++ group_spans c.put.new.self) h.1.0 (h.1.0 + s.word) false false c.put.result) c.span_of.ensures
-    (grouped_put_from old.count c.span_of.result F (group_spans c.words.group) (group_spans c.put.new.self)
+    let put = rw c.span_of.ensures at (grouped_put_from old.count c.span_of.result F
+    (group_spans c.words.group) (group_spans c.put.new.self)
     h.1.0 c.put.result (ap length h.0 ∙ length-held old) (not_full c.args.role c.put.result may)
     c.put.ensures) in
     elim c.put_group.ensures [
-      | inl f ↦ subst (AreWordsRead c.args.role first c.words.cursor old c.put_group.new.spans o false)
-          (sym f)
-          (walks_full _ _ _ old _ _ _ _ w c.requires.many)
+      | inl f ↦ rw f (walks_full _ _ _ old _ _ _ _ w c.requires.many)
       | inr b ↦
-          subst (AreWordsRead c.args.role first c.words.cursor old c.put_group.new.spans o false) (sym b.0)
-          (walks_end _ _ _ old _ _ _ _ h.1.1 c.requires.role word (F ++ group_spans c.put.new.self) _ _ _ refl
+          rw b.0 (walks_end _ _ _ old _ _ _ _ h.1.1 c.requires.role word
+          (F ++ group_spans c.put.new.self) _ _ _ refl
           c.put.result put may c.put_group.new.spans (sym b.1) (c.is_last.ensures.0 c.if-is_last.true))
     ]
 
 pub advance-requires-clause-short : goal.advance-requires-clause-short
-advance-requires-clause-short c = short_kind c.args.role _ (sym c.fits.ensures ∙ c.words-test.true)
+advance-requires-clause-short c = grind (arith, short_kind)
 
 pub words-preserved : goal.words-preserved
 words-preserved c = (
@@ -107,9 +123,8 @@ words-preserved c = (
       let h = c.words.invariant.1 first old last o n is w in
       let F = held_spans c.words.spans in
       let word = sym c.fits.ensures ∙ c.words-test.true in
-      let put = subst (λ (s : Span). IsPutFrom old.count s (F ++ group_spans c.words.group)
-      (F ++ group_spans c.put.new.self) h.1.0 (h.1.0 + s.word) false false c.put.result) c.span_of.ensures
-      (grouped_put_from old.count c.span_of.result F (group_spans c.words.group) (group_spans c.put.new.self)
+      let put = rw c.span_of.ensures at (grouped_put_from old.count c.span_of.result F
+      (group_spans c.words.group) (group_spans c.put.new.self)
       h.1.0 c.put.result (ap length h.0 ∙ length-held old) (not_full c.args.role c.put.result may)
       c.put.ensures) in (
         h.0,
@@ -127,11 +142,9 @@ returns c = λ first old last o n is w.
     let none = sym c.fits.ensures ∙ c.words-test.false in
     elim c.put_group-2.ensures [
       | inl f ↦
-          subst (AreWordsRead c.args.role first c.words.cursor old c.put_group-2.new.spans o false) (sym f)
-          (walks_full _ _ _ old _ _ _ _ w c.requires.many)
+          rw f (walks_full _ _ _ old _ _ _ _ w c.requires.many)
       | inr b ↦
-          subst (AreWordsRead c.args.role first c.words.cursor old c.put_group-2.new.spans o false)
-          (sym b.0) (
+          rw b.0 (
             h.1.1.words,
             h.1.1.past,
             none,

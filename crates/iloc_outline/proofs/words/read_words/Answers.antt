@@ -1,22 +1,23 @@
-use Rattle.std.proofs.Common.{rules, ◌∙◌, sym, subst, arith, inl, inr, refl}
+use Rattle.std.proofs.Common.{rules, ◌∙◌, sym, arith, inl, inr, refl}
 use denote.Enum.Bare.{same_false, same_true}
 use Rattle.iloc_spans.specs.contracts.span.Role.{the_type}
-use Rattle.iloc_outline.specs.Gathering.{Walks}
-use Rattle.iloc_spans.specs.Inserting.{IsPutFrom}
 use Rattle.iloc_spans.specs.Spans.{held_spans}
-use Rattle.iloc_spans.specs.declared.span.Span.{Span}
 use Rattle.iloc_outline.proofs.GatherLemmas.{gathers_from, put_full}
 use Rattle.iloc_outline.proofs.RoleLemmas.{short_kind}
 use Rattle.iloc_spans.proofs.HeldLemmas.{length-held}
-use Rattle.iloc_outline.proofs.WordsInOrder.{IsKept, walks_end, walks_more, walks_none}
-use Rattle.iloc_outline.proofs.WordsInOrder.{walks_past, walks_repeat}
+use Rattle.iloc_outline.proofs.WordsInOrder.{
+  IsKept,
+  walks_end,
+  walks_more,
+  walks_none,
+  walks_past,
+  walks_repeat,
+}
 use Rattle.iloc_outline.proofs.words.read_words.Goals as goal
 use Rattle.iloc_outline.proofs.words.read_words.Goals.{in-Put, in-There+else-eq}
 
 pub words-init : goal.words-init
-words-init g c =
-    walks_none c.args.role c.args.cursor.now c.requires.later (held_spans c.args.spans.now)
-    c.args.in_order.now
+words-init g c = search walks_none
 
 pub span_of-span-requires-clause-later : goal.span_of-span-requires-clause-later
 span_of-span-requires-clause-later g c = c.words.invariant.past.later
@@ -25,10 +26,7 @@ pub returns-in-Full : goal.returns-in-Full
 returns-in-Full g c =
     c.read_words.ensures c.args.cursor.now c.args.spans.now c.words.last c.args.in_order.now
     c.words.in_order refl
-    (subst (λ ss. Walks c.args.role c.args.cursor.now c.words.cursor (held_spans c.args.spans.now) ss
-    c.words.last
-    c.args.in_order.now c.words.in_order)
-    (sym (put_full _ _ _ _ _ _ _ _ c.put_from.result c.in-Full.is c.put_from.ensures.put)) c.words.invariant)
+    (rw (put_full _ _ _ _ _ _ _ _ c.put_from.result c.in-Full.is c.put_from.ensures.put) c.words.invariant)
 
 pub put_from-requires : goal.put_from-requires
 put_from-requires g c =
@@ -42,9 +40,7 @@ put_from-requires g c =
 pub returns-then-eq : goal.returns-then-eq
 returns-then-eq g c =
     let word = sym c.fits.ensures ∙ c.words-test.true in
-    let put = subst (λ (s : Span). IsPutFrom c.args.spans.now.count s (held_spans c.words.spans)
-    (held_spans c.put_from.new.spans) c.words.last c.put_from.new.last c.words.in_order
-    c.put_from.new.in_order c.put_from.result) c.span_of-span.ensures c.put_from.ensures.put in (
+    let put = rw c.span_of-span.ensures at c.put_from.ensures.put in (
       same_true the_type (search rules) _ _ (sym c.eq.ensures ∙ c.if-eq.true),
       walks_repeat _ _ _ c.args.spans.now _ _ _ _ c.words.invariant c.requires.role word
           (held_spans c.put_from.new.spans) _ _ _
@@ -54,9 +50,7 @@ returns-then-eq g c =
 pub returns-then-is_last : goal.returns-then-is_last
 returns-then-is_last g c =
     let word = sym c.fits.ensures ∙ c.words-test.true in
-    let put = subst (λ (s : Span). IsPutFrom c.args.spans.now.count s (held_spans c.words.spans)
-    (held_spans c.put_from.new.spans) c.words.last c.put_from.new.last c.words.in_order
-    c.put_from.new.in_order c.put_from.result) c.span_of-span.ensures c.put_from.ensures.put in
+    let put = rw c.span_of-span.ensures at c.put_from.ensures.put in
     let may : IsKept c.args.role c.put_from.result = elim c.match-put_from.branch [
       | in-Put b ↦ inl b.in-Put.is
       | in-There+else-eq b ↦ inr (b.in-There.is, same_false the_type _ _ (sym b.eq.ensures ∙ b.if-eq.false))
@@ -66,14 +60,12 @@ returns-then-is_last g c =
     refl c.put_from.result put may c.put_from.new.spans refl (c.is_last.ensures.0 c.if-is_last.true)
 
 pub advance-requires-clause-short : goal.advance-requires-clause-short
-advance-requires-clause-short g c = short_kind c.args.role _ (sym c.fits.ensures ∙ c.words-test.true)
+advance-requires-clause-short g c = grind (arith, short_kind)
 
 pub words-preserved : goal.words-preserved
 words-preserved g c =
     let word = sym c.fits.ensures ∙ c.words-test.true in
-    let put = subst (λ (s : Span). IsPutFrom c.args.spans.now.count s (held_spans c.words.spans)
-    (held_spans c.put_from.new.spans) c.words.last c.put_from.new.last c.words.in_order
-    c.put_from.new.in_order c.put_from.result) c.span_of-span.ensures c.put_from.ensures.put in
+    let put = rw c.span_of-span.ensures at c.put_from.ensures.put in
     let may : IsKept c.args.role c.put_from.result = elim c.match-put_from.branch [
       | in-Put b ↦ inl b.in-Put.is
       | in-There+else-eq b ↦ inr (b.in-There.is, same_false the_type _ _ (sym b.eq.ensures ∙ b.if-eq.false))

@@ -8,7 +8,4 @@ pub word_number-requires : goal.word_number-requires
 word_number-requires c = word_fits c.args.role _ c.requires.word
 
 pub overflow_add-result : goal.overflow_add-result
-overflow_add-result c =
-    let l = c.args.cursor in
-    let short = short_kind c.args.role _ c.requires.word in
-    omega (arith, (short_piece l c.requires.later short).inside, length_text l)
+overflow_add-result c = grind (arith, short_kind, short_piece, length_text)

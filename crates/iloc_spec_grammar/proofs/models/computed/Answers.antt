@@ -1,7 +1,12 @@
 -- Test by test.
-use Rattle.iloc_spec_grammar.proofs.ComputingLaws.{locale_answers, text_identifier_answers, computed_means}
-use Rattle.iloc_spec_grammar.proofs.ComputingLaws.{computed_fault, computed_identifier}
-use Rattle.iloc_spec_grammar.proofs.ComputingLaws.{computed_identifier_fault}
+use Rattle.iloc_spec_grammar.proofs.ComputingLaws.{
+  locale_answers,
+  text_identifier_answers,
+  computed_means,
+  computed_fault,
+  computed_identifier,
+  computed_identifier_fault,
+}
 use Rattle.iloc_spec_grammar.proofs.models.computed.Goals as goal
 
 pub returns : goal.returns

@@ -3,9 +3,4 @@ use Rattle.iloc_spec_parts.proofs.BlockRules.{unicode_alone, transform_alone, pr
 use Rattle.iloc_spec_parts.proofs.fronts.block_rules.Goals as goal
 
 pub returns : goal.returns
-returns c = record {
-  unicode = unicode_alone;
-  transform = transform_alone;
-  private = private_alone;
-  other = other_alone;
-}
+returns c = search (unicode_alone, transform_alone, private_alone, other_alone)

@@ -1,5 +1,5 @@
 -- By computing each.
-use Rattle.std.proofs.Common.{refl}
+use Rattle.std.proofs.Common.{arith}
 use Rattle.iloc_spec_grammar.specs.Syntax.{pieces, join, is_word, lower, upper, title, is_true, languages}
 use Rattle.iloc_spec_grammar.specs.Reading.{front_of, after_front}
 use Rattle.iloc_spec_parts.specs.Fronts.{unicode_result, transform_result, other_result, private_result}
@@ -8,22 +8,4 @@ use Rattle.iloc_spec_parts.proofs.fronts.by_example.Goals as goal
 pub returns : goal.returns
 unfolding unicode_result transform_result other_result private_result front_of after_front pieces join is_word
     lower upper title is_true languages
-returns c = record {
-  attributes = refl;
-  keywords = refl;
-  no_keywords = refl;
-  bad_key = refl;
-  unicode = refl;
-  no_unicode = refl;
-  transform = refl;
-  variant_twice = refl;
-  no_value = refl;
-  identifier_first = refl;
-  other = refl;
-  no_word = refl;
-  private = refl;
-  empty_value = refl;
-  value = refl;
-  bad_value = refl;
-  short_value = refl;
-}
+returns c = grind arith

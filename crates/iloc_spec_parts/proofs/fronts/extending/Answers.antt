@@ -1,14 +1,20 @@
 -- By look-ups.
-use Rattle.iloc_spec_parts.proofs.ExtendingLaws.{extend_associative, extend_overrides, extend_unites}
-use Rattle.iloc_spec_parts.proofs.ExtendingLaws.{extend_is_value, extend_nothing, nothing_extended}
+use Rattle.iloc_spec_parts.proofs.ExtendingLaws.{
+  extend_associative,
+  extend_overrides,
+  extend_unites,
+  extend_is_value,
+  extend_nothing,
+  nothing_extended,
+}
 use Rattle.iloc_spec_parts.proofs.fronts.extending.Goals as goal
 
 pub returns : goal.returns
-returns c = record {
-  associative = extend_associative;
-  keywords = extend_overrides;
-  attributes = extend_unites;
-  value = extend_is_value;
-  by_nothing = extend_nothing;
-  nothing = nothing_extended;
-}
+returns c = search (
+  extend_associative,
+  extend_overrides,
+  extend_unites,
+  extend_is_value,
+  extend_nothing,
+  nothing_extended,
+)

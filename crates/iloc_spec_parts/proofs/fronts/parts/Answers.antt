@@ -3,5 +3,4 @@ use Rattle.iloc_spec_parts.proofs.PartReaders.{unicode_part, transform_part, oth
 use Rattle.iloc_spec_parts.proofs.fronts.parts.Goals as goal
 
 pub returns : goal.returns
-returns c =
-    record { unicode = unicode_part; transform = transform_part; other = other_part; private = private_part }
+returns c = search (unicode_part, transform_part, other_part, private_part)

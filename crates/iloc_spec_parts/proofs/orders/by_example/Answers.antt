@@ -1,5 +1,5 @@
 -- By computing each.
-use Rattle.std.proofs.Common.{refl}
+use Rattle.std.proofs.Common.{arith}
 use Rattle.std.specs.Hash.{le_bytes}
 use Rattle.iloc_spec_grammar.specs.Syntax.{pieces, is_word, lower, upper, title, is_true, languages}
 use Rattle.iloc_spec_grammar.specs.Reading.{identifier_of, unicode_of, transform_of, written_of}
@@ -8,15 +8,4 @@ use Rattle.iloc_spec_parts.proofs.orders.by_example.Goals as goal
 pub returns : goal.returns
 unfolding le_bytes written_of unicode_of transform_of identifier_of pieces is_word lower upper title is_true
     languages
-returns c = record {
-  fewer_variants = refl;
-  fewer_items = refl;
-  bytes = refl;
-  no_script_first = refl;
-  unicode_first = refl;
-  singletons = refl;
-  one_value_first = refl;
-  itself = refl;
-  fed = refl;
-  fed_alike = refl;
-}
+returns c = grind arith

@@ -3,4 +3,4 @@ use Rattle.iloc_spec_parts.proofs.SubdivisionLaws.{subdivision_back, read_is_sub
 use Rattle.iloc_spec_parts.proofs.regions.subdivisions.Goals as goal
 
 pub returns : goal.returns
-returns c = record { back = subdivision_back; valid = read_is_subdivision; same = text_of_read }
+returns c = search (subdivision_back, read_is_subdivision, text_of_read)

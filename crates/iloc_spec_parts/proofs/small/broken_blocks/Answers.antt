@@ -3,8 +3,4 @@ use Rattle.iloc_spec_parts.proofs.BrokenBlocks.{broken_unicode, broken_transform
 use Rattle.iloc_spec_parts.proofs.small.broken_blocks.Goals as goal
 
 pub returns : goal.returns
-returns c = record {
-  unicode = λ T b. broken_unicode b;
-  transform = λ T b. broken_transform b;
-  other = λ T b. broken_other b;
-}
+returns c = search (broken_unicode, broken_transform, broken_other)
