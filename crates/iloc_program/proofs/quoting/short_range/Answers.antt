@@ -31,7 +31,6 @@ returns-clause-text c =
     c.unit-first.ensures c.unit-second.ensures in
     let to = two_digits n c.unit-tens.result c.unit-units.result (omega arith) (omega arith)
     c.unit-tens.ensures c.unit-units.ensures in
-    packed 8
-    (9 ∷ c.unit-first.result ∷ c.unit-second.result ∷ 46 ∷ 46 ∷ c.unit-tens.result ∷ c.unit-units.result ∷ 9 ∷ [])
-    c.from_le_bytes-2.result refl (search arith) c.from_le_bytes-2.ensures
+    let ends = c.unit-tens.result ∷ c.unit-units.result ∷ 9 ∷ [] in
+    packed 8 (9 ∷ c.unit-first.result ∷ c.unit-second.result ∷ 46 ∷ 46 ∷ ends) c.from_le_bytes-2.result refl (search arith) c.from_le_bytes-2.ensures
     ∙ sym (range_of m n from to)
