@@ -11,14 +11,16 @@ push_columns-requires-clause-piece c =
     let f = c.args.fault.now in
     let enough : f.end - f.start ≤ c.before_marked.result = omega (arith, c.if-len-before_marked.false) in
     at_most_sixteen c.args.line.bytes.now f.start f.end c.args.line.room c.requires.within.0
-    c.requires.within.1 c.before_marked.result c.escaped_in.result c.before_marked.ensures c.escaped_in.ensures enough
+    c.requires.within.1 c.before_marked.result c.escaped_in.result c.before_marked.ensures
+    c.escaped_in.ensures enough
 
 pub returns : goal.returns
 returns c =
     let f = c.args.fault.now in
     let enough : f.end - f.start ≤ c.before_marked.result = omega (arith, c.if-len-before_marked.false) in
     let piece = stored c.args.line.bytes.now f.start f.end c.args.line.room c.requires.within.0
-    c.requires.within.1 c.before_marked.result c.escaped_in.result c.before_marked.ensures c.escaped_in.ensures enough in
+    c.requires.within.1 c.before_marked.result c.escaped_in.result c.before_marked.ensures
+    c.escaped_in.ensures enough in
     let stands = columns _ _ _ _ _ _ c.reason_of-count.ensures.text
     (ap (take c.short_range-range.result.1) c.to_le_bytes.ensures ∙ c.short_range-range.ensures.text)
     (ap (take (f.end - f.start)) c.as_array.ensures ∙ piece) in

@@ -32,5 +32,6 @@ returns-clause-text c =
     let to = two_digits n c.unit-tens.result c.unit-units.result (omega arith) (omega arith)
     c.unit-tens.ensures c.unit-units.ensures in
     let ends = c.unit-tens.result ∷ c.unit-units.result ∷ 9 ∷ [] in
-    packed 8 (9 ∷ c.unit-first.result ∷ c.unit-second.result ∷ 46 ∷ 46 ∷ ends) c.from_le_bytes-2.result refl (search arith) c.from_le_bytes-2.ensures
+    packed 8 (9 ∷ c.unit-first.result ∷ c.unit-second.result ∷ 46 ∷ 46 ∷ ends) c.from_le_bytes-2.result
+    refl (search arith) c.from_le_bytes-2.ensures
     ∙ sym (range_of m n from to)
