@@ -1,5 +1,5 @@
 //! Copies extensions, without their empty parts.
-ghost use Rattle.std.specs.Prelude.{◌≡◌, [], IsTrue, OnOk, OnErr, IfOk, length};
+ghost use Rattle.std.specs.Prelude.{◌≡◌, [], IsTrue, OnOk, OnErr, length};
 ghost use Rattle.iloc_spec_grammar.specs.Meaning.{no_extensions, no_transform};
 ghost use Rattle.iloc_transform.specs.TransformReading as transforms;
 ghost use Rattle.iloc_transform.specs.Sizes.{transform_items};
@@ -15,18 +15,6 @@ use iloc_transform::Transform;
 use iloc_unicode::Attributes;
 use std::alloc::AllocError;
 
-/// A copy, in which empty parts are not copied. Most have keywords alone.
-#[inline(always)]
-pub(crate) fn copied<C: Copying>(copying: C, from: &Extensions) -> Result<Extensions, AllocError>
-    ensures value { IfOk result (λ copy. value_of copy ≡ value_of from.now) }
-    ensures out_of_memory { OnErr result
-        (RefusedWithin C.Room.refused (extensions_items from.now)) }
-{
-    let mut copy = none_for(copying, from);
-    fill(copying, &mut copy, from)?;
-    Ok(copy)
-}
-
 /// No extension, in which a copy of these is made.
 #[inline(always)]
 pub fn none_for<C: Copying>(copying: C, from: &Extensions) -> Extensions
@@ -35,8 +23,8 @@ pub fn none_for<C: Copying>(copying: C, from: &Extensions) -> Extensions
     none(copying.memory_for(&from.other))
 }
 
-/// Copies each part that is there over an empty one. Returned by value they would be moved twice more. Refusal: `AllocError`,
-/// only if room for at most as many items as there are in all was refused.
+/// Copies each part that is there over an empty one. Most have keywords alone. Returned by value a copy would be moved twice
+/// more. Refusal: `AllocError`, only if room for at most as many items as there are in all was refused.
 #[inline(always)]
 pub fn fill<C: Copying>(
     copying: C,

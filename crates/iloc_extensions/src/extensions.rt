@@ -8,7 +8,7 @@ ghost use Rattle.iloc_memory.specs.Refusals.{RefusedWithin};
 ghost use Rattle.iloc_spec_grammar.specs.Meaning.{just_unicode, no_extensions};
 ghost use Rattle.iloc_unicode.specs.UnicodeValue as unicode_value;
 
-use crate::copying::copied;
+use crate::copying::{fill, none_for};
 use crate::extension_type::ExtensionType;
 use crate::retaining::{keep_private, keep_transform, keep_unicode};
 use iloc_copying::{FromMemory, FromOwn};
@@ -37,7 +37,9 @@ impl Clone for Extensions {
     ghost is_clone = { λ d e. value_of e ≡ value_of d };
 
     fn clone(&self) -> Result<Self, AllocError> {
-        copied(FromOwn, self)
+        let mut copy = none_for(FromOwn, self);
+        fill(FromOwn, &mut copy, self)?;
+        Ok(copy)
     }
 }
 
@@ -62,7 +64,9 @@ impl Extensions {
         ensures out_of_memory { OnErr result
             (RefusedWithin M.refused (extensions_items self.now)) }
     {
-        copied(FromMemory(memory), self)
+        let mut copy = none_for(FromMemory(memory), self);
+        fill(FromMemory(memory), &mut copy, self)?;
+        Ok(copy)
     }
 
     /// No extension.
