@@ -7,7 +7,6 @@ import glob
 import pathlib
 import re
 
-import part_rows
 from written import SPECS_WIDTH as WIDTH
 from common import ROOT, below, crates_of, read, rows_of, stop
 
@@ -69,10 +68,6 @@ def listed():
            ("vectors/README.md", "conformance/README.md", "conformance/peers/README.md"))
     yield "long vectors", lines("vectors/long.in"), r"`long\.in` \| # lines", ("vectors/README.md",)
     yield "real lines", lines("vectors/real.in"), r"`real\.in` has # lines", ("vectors/README.md",)
-    rows = r"Of the rows of `crates/test_part_rows` a locale can say "
-    yield "rows of parts", len(part_rows.rows()), rows + r"[\d,]+ of #", ("docs/BINDINGS.md",)
-    yield "rows of parts of a locale", part_rows.said()[2], rows + "#", ("docs/BINDINGS.md",)
-    yield "rows of parts in Rust", part_rows.said(takes_bytes=False)[2], rows + r"[\d,]+ of [\d,]+, and # in Rust", ("docs/BINDINGS.md",)
     yield "the toolchain", None, "rattle-kit-@", ("README.md", "docs/GATE.md")
     yield "the logic", None, "logic @`|sum=@ ", ("README.md", "docs/CLAUSES.md")
     yield "minutes of ./test --quick", None, r"`\./test --quick`(?: runs the tests)?[\w ,|]*? # minutes", ("README.md", "CONTRIBUTING.md", "docs/GATE.md")
