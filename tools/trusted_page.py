@@ -66,8 +66,8 @@ def counted(closure):
 
 
 def unknown(sources):
-    """Returns which names in what was read nothing in scope explains."""
-    line = "{}: {} cites {}, which nothing in scope explains".format
+    """Returns which names in what was read their modules do not have."""
+    line = "{}: {} cites {}, which is not there".format
     return [line(it.where, it.name, ", ".join(sorted(names))) for it, names in sources.unknown.items()]
 
 
@@ -229,9 +229,6 @@ class Pages:
                 wrong.append(f"{names}: {call} has a clause '{kind}': a call of the headline asks nothing of its callers")
             elif kind != ON_MEMORY and (call, name) not in self.shown:
                 wrong.append(f"{names}: the clause {name!r} of {call} is not shown: add a part 'clause {call} {name}'")
-        named = [(it.where, name) for it in self.sources.definitions() for name in (it.name, *it.members)]
-        taken = "{}: {} is a word of antt or of its prelude: name it otherwise".format
-        wrong += [taken(*it) for it in named if it[1] in graph.antt.WORDS]
         return made, wrong
 
     def clauses(self):
@@ -319,7 +316,7 @@ def alike(definitions, key):
 
 def shape_of(sources, definition):
     """Returns the clauses of a definition, with what each name means in the place of the name."""
-    text = " ;; ".join(part[0] for part in definition.parts if part[1] == "clause")
+    text = " ;; ".join(definition.clauses)
     shape, bound = [], {}
     tokens = re.findall(r"\"[^\"]*\"|\.[^\s(){};,]+|[^\s(){};,]+|[(){};,]", text)
     for before, token, after in zip([""] + tokens, tokens, tokens[1:] + [""]):
@@ -338,7 +335,7 @@ def shape_of(sources, definition):
             shape.append(f"{meant[0]!r} {named if named in getattr(meant[0], 'members', ()) else ''}")
         elif sign in definition.module.items:
             shape.append(definition.module.items[sign][1])
-        elif re.match(r"[^\W\d]", token) and token not in graph.antt.WORDS:
+        elif re.match(r"[^\W\d]", token):
             name, dot, field = token.partition(".")
             shape.append(f"bound {bound.setdefault(name, len(bound))}{dot}{field}")
         else:
