@@ -24,12 +24,10 @@ class Definition:
 
     module: "Module"
     name: str
-    kind: str
     line: int
     lines: list = field(default_factory=list)
     comment: list = field(default_factory=list)
-    parts: list = field(default_factory=list)  # the texts of its parameters and of its type, or of its fields or constructors
-    clauses: list = field(default_factory=list)  # those of its clauses
+    parts: list = field(default_factory=list)  # its texts: of parameters, type and clauses, or of fields or constructors
     members: list = field(default_factory=list)  # constructors, or fields
 
     where = property(lambda self: f"{self.module.path}:{self.line}")
@@ -39,14 +37,8 @@ class Definition:
         """Returns the first sentence of the comment above it."""
         return first_sentence(" ".join(self.comment).strip())
 
-    def is_public(self):
-        return re.match(r"[^=:]*\bpub ", self.lines[0]) is not None
-
     def count(self):
         return sum(map(is_code, self.lines))
-
-    def texts(self):
-        return [*self.parts, *self.clauses]
 
     def __repr__(self):
         return f"{'.'.join(self.module.name)}.{self.name}"
@@ -151,7 +143,7 @@ class Reader:
                 current = self.shape(head, stop, comment, text, params)
             elif current and self.is_clause(text, current.name):
                 current.lines += self.lines[head:stop]
-                current.clauses.append(text)
+                current.parts.append(text)
             else:
                 current = self.signature(head, stop, comment, text, params)
 
@@ -166,13 +158,13 @@ class Reader:
         return definition
 
     def signature(self, head, stop, comment, text, params):
-        found = re.match(r"(?:(abbrev|unfoldable)\s+)?(?:pub\s+)?(?:(abbrev|unfoldable)\s+)?(\S+)\s*:?(.*)$", text, re.S)
-        name, kind, parts = found[3].strip("«»"), found[1] or found[2] or "abstract", [found[4]]
-        return self.add(Definition(self.module, name, kind, head + 1, self.lines[head:stop], comment, parts), params)
+        found = re.match(r"(?:(?:abbrev|unfoldable|pub)\s+)*(\S+)\s*:?(.*)$", text, re.S)
+        made = Definition(self.module, found[1].strip("«»"), head + 1, self.lines[head:stop], comment, [found[2]])
+        return self.add(made, params)
 
     def shape(self, head, stop, comment, text, params):
         found = re.match(r"(?:pub\s+)?(data|record)\s+(\S+)", text)
-        made = Definition(self.module, found[2], found[1], head + 1, self.lines[head:stop], comment)
+        made = Definition(self.module, found[2], head + 1, self.lines[head:stop], comment)
         body = next((n for n in range(head, stop) if self.lines[n].rstrip().endswith(" where")), stop - 1)
         header = without_suffix(self.text(head, body + 1), "where")
         made.parts = [header[found.end() :]]

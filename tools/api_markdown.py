@@ -3,7 +3,7 @@ import os
 import re
 
 import api_words
-from api_examples import examples, remark, tried
+from api_examples import examples
 from api_model import KEYS_BY_NAME, base_of, error_of, is_law, model, short, shown
 from api_source import CORE
 from common import ROOT, without_prefix
@@ -22,7 +22,7 @@ Every public item that `{CORE}` passes on, one page for each module. Each call h
 - what it needs, if it has a condition;
 - each refusal by name, and when it comes;
 - whether it may run out of memory;
-- an example: a line of a program or a test that the gate runs, or what stands there right of `=>`. A call that only the library needs is shown by the library's own line; one that is made only on a bare `self` has none. *Tried* is a table test: what is given, and what is returned.
+- an example: a line of a program or a test that the gate runs, or what stands there right of `=>`. A call that only the library needs is shown by the library's own line; one that is made only on a bare `self` has none.
 
 `tools/list_api` makes these pages of the sources, and `tools/list_api --check` says whether they are current. `grep -rn WORD docs/api` searches them. A contract stands where its link leads; `tools/trusted CALL`, as `tools/trusted Locale::clear`, prints its clauses with each definition that they cite. docs/FROM_RUST.md has the name of each item in the Rust crate.
 
@@ -52,19 +52,12 @@ def link(entry_path, within):
     return f"[`{short(entry_path)}`]({at}#{slug(name)})"
 
 
-def tried_row(path):
-    """Returns rows that the gate runs of a reader: what is given, and what is answered."""
-    rows = [f"[`{given}`](../../{file}#L{number}) is answered `{answer}`" for file, number, given, answer in tried(short(path))]
-    said = remark(short(path))
-    return [f"- Tried: {'; '.join(rows)}" + (f" ({said})" if said else "") + "."] if rows else []
-
-
-def call_rows(call, module):
+def call_rows(call):
     rows = [f"#### `{call.title}`", "", f"    {call.signature}", "", call.sentence or "."]
     rows += ["", *[it for part in call.details for it in (part, "")]] if call.details else [""]
     facts = [f"- Needs: {it}" for it in call.needs] + ["- Refuses:"] * bool(call.refuses)
     facts += [f"  - `{name}` if {when}." for name, when in call.refuses]
-    facts += [f"- Memory: {call.memory}"] * bool(call.memory) + tried_row(f"{module}::{call.title}")
+    facts += [f"- Memory: {call.memory}"] * bool(call.memory)
     for path, number, line in [examples()[call.key]] if call.key in examples() else []:
         facts.append(f"- Example: `{line}` in [{without_prefix(path, 'crates/')}](../../{path}#L{number})")
     facts += [f"- States: `{it.fact}`" for it in call.item.stated if is_law(call.item)]
@@ -97,9 +90,8 @@ def entry_rows(entry, homes):
     if entry.see:
         return rows + [f"Described at {link(entry.see, entry.module)}.", ""]
     if entry.kind == "fn":
-        return [it.replace("#### ", "### ") for it in call_rows(entry.calls[0], entry.module)]
+        return [it.replace("#### ", "### ") for it in call_rows(entry.calls[0])]
     rows += [entry.sentence or ".", ""] + [it for part in entry.details for it in (part, "")]
-    rows += tried_row(entry.path) + [""] if tried_row(entry.path) else []
     if entry.refusal:
         rows += [f"Its refusal is `{entry.refusal}`.", ""]
     if base_of(entry):
@@ -108,7 +100,7 @@ def entry_rows(entry, homes):
     rows += trait_rows(entry, homes)
     if entry.name == "JsonText":
         rows += ["Types that have it: " + ", ".join(link(it, entry.module) for it in json_types()) + ".", ""]
-    return rows + [it for call in entry.calls for it in call_rows(call, entry.module)]
+    return rows + [it for call in entry.calls for it in call_rows(call)]
 
 
 def json_types():

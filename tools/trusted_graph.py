@@ -285,7 +285,7 @@ class Sources:
         self.unknown.setdefault(item, set()).add(name)
 
     def cited_by_definition(self, item):
-        found = [self.lookup(item.module, names) or () for text in item.texts() for names in antt.paths_in(text)]
+        found = [self.lookup(item.module, names) or () for text in item.parts for names in antt.paths_in(text)]
         return [it for every in found for it in every if it is not item]
 
     def cited_by_type(self, item):

@@ -2,7 +2,6 @@
 
 A part stands between `<!-- trusted: WHAT -->` and `<!-- /trusted -->`, where WHAT is one of
 
-- `times`: how long each page takes to read;
 - `counts`: how much the contracts rest on;
 - `clause CALL NAME`: a clause of a contract, word for word;
 - `files PATH ..`: the definitions of these files on which the headline rests, word for word; after
@@ -26,14 +25,8 @@ from written import table
 
 HEADLINE = ("Locale::try_from_utf8", "Locale::normalize_utf8", "Locale::is_well_formed", "Locale::write_to_string")
 ON_MEMORY = "ensures memory"  # the one kind of clause that stands apart: it says when memory may run out
-# what several types have, each its own: its value, its place in an enum, the items of its list, the
-# list with others, the words of an error, how a value of a map is lent
-ALIKE = ("value_of", "place", "items_of", "with_list", "words_of", "lends_value", "lends_slice", "lends_item")
 PAGES = ("docs/REVIEW.md", "docs/CLAUSES.md")
-NEEDED = ("times", "counts", "signatures", "types", "names", "memory", "outside")  # the parts that some page has to have
-# how much is read in a minute
-WORDS, LINES = 220, 6
-CODE = re.compile(r"```text\n(.*?)```", re.S)
+NEEDED = ("counts", "signatures", "types", "names", "memory", "outside")  # the parts that some page has to have
 PART = re.compile(r"<!-- trusted: (.+?) -->\n(.*?)<!-- /trusted -->", re.S)
 
 
@@ -71,14 +64,6 @@ def unknown(sources):
     return [line(it.where, it.name, ", ".join(sorted(names))) for it, names in sources.unknown.items()]
 
 
-def reading(text):
-    """Returns how many words a page has, how many lines of definitions and clauses, and how many words their comments have."""
-    code = [it.strip() for it in "\n".join(CODE.findall(text)).split("\n") if it.strip()]
-    comments = [it[2:] for it in code if it.startswith("--")]
-    words = len(re.sub(r"<!--.*?-->", "", CODE.sub("", text)).split())
-    return words, len(code) - len(comments), len(" ".join(comments).split())
-
-
 class Pages:
     """The headline's closures, and the parts that are made of them."""
 
@@ -86,7 +71,7 @@ class Pages:
         self.sources = sources
         self.whole = graph.closure_of(sources, headline(sources))
         self.plain = without_memory(sources, headline(sources))
-        self.placed, self.shown, self.texts = set(), set(), {}
+        self.placed, self.shown = set(), set()
 
     def part(self, what):
         kind, *words = what.split()
@@ -94,19 +79,6 @@ class Pages:
         if made is None:
             raise Wrong(f"no part is called {kind!r}")
         return made(*words)
-
-    def part_times(self):
-        """Says how long each page takes. Its own words are left out, so that they do not change what they say."""
-        rows, head = [], ["Page", "Words", "Lines of definitions and clauses"]
-        head += [f"Minutes, at {WORDS} words and {LINES} of these lines each"]
-        head += ["Words of comments in definitions", "Minutes with these"]
-        for path, text in self.texts.items():
-            own = lambda found: "" if found[1] == "times" else found[0]
-            words, lines, comments = reading(PART.sub(own, text))
-            minutes = words / WORDS + lines / LINES
-            more = round(minutes + comments / WORDS)
-            rows.append((path, f"{words:,}", f"{lines:,}", round(minutes), f"{comments:,}", more))
-        return table(head, rows)
 
     def part_counts(self):
         meaning = graph.named(self.sources, HEADLINE[0])
@@ -196,12 +168,10 @@ class Pages:
         said += f" These pages show {lines_of(self.plain.definitions):,} of these lines."
         return f"{said} The headline rests on no other, but for memory and for the views of stop 8."
 
-    def made_of(self, path, text, is_wanted, wrong):
-        """Returns the page of this text with those of its parts made anew that are wanted. Notes what cannot be made."""
+    def made_of(self, path, text, wrong):
+        """Returns the page of this text with its parts made anew. Notes what cannot be made."""
 
         def one(found):
-            if not is_wanted(found[1]):
-                return found[0]
             try:
                 return f"<!-- trusted: {found[1]} -->\n{self.part(found[1])}\n<!-- /trusted -->"
             except (Wrong, TypeError) as why:
@@ -213,10 +183,7 @@ class Pages:
     def made(self, texts):
         """Returns the pages with their parts made anew, by their paths, and what is wrong with them."""
         wrong = []
-        for path, text in texts.items():
-            self.texts[path] = self.made_of(path, text, lambda what: what != "times", wrong)
-        # (the last, since it counts all others)
-        made = {path: self.made_of(path, text, lambda what: what == "times", wrong) for path, text in self.texts.items()}
+        made = {path: self.made_of(path, text, wrong) for path, text in texts.items()}
         names = " and ".join(PAGES)
         there = {it[1] for text in texts.values() for it in PART.finditer(text)}
         wrong += [f"{names}: the part {it!r} is on neither page: add it" for it in NEEDED if it not in there]
@@ -293,51 +260,9 @@ def check(sources):
     """Says which parts of the pages are not what the sources give, and which definitions have no sentence."""
     wrong, outdated, count = stale(sources)
     wrong += unknown(sources)
-    library, every = graph.closure_of(sources, graph.library(sources)), sources.definitions()
+    library = graph.closure_of(sources, graph.library(sources))
     wrong += [f"{it.where}: {it.name} has no sentence" for it in library.definitions if not it.sentence()]
-    # (texts that differ in names of their own alone, signatures aside; and public names, but for what several types have alike)
-    with_text = [it for it in every if it.kind not in ("abstract", "data", "record")]
-    wrong += [f"the same text: {it}" for it in alike(with_text, lambda it: shape_of(sources, it))]
-    with_name = [it for it in every if it.kind != "abstract" and it.is_public() and it.name not in ALIKE]
-    wrong += [f"one name for two things: {it}" for it in alike(with_name, lambda it: it.name)]
     wrong += outdated
     print("\n".join(wrong) if wrong else f"trusted: {' and '.join(PAGES)} are current")
     failed = min(len(wrong), count) or len(wrong)
     return common.counted(max(count - failed, 0), failed)
-
-
-def alike(definitions, key):
-    """Returns for each group of definitions that have the same key their names and places."""
-    groups = {}
-    for it in definitions:
-        groups.setdefault(key(it), []).append(f"{it.name} ({it.where})")
-    return [", ".join(it) for it in groups.values() if len(it) > 1]
-
-
-def shape_of(sources, definition):
-    """Returns the clauses of a definition, with what each name means in the place of the name."""
-    text = " ;; ".join(definition.clauses)
-    shape, bound = [], {}
-    tokens = re.findall(r"\"[^\"]*\"|\.[^\s(){};,]+|[^\s(){};,]+|[(){};,]", text)
-    for before, token, after in zip([""] + tokens, tokens, tokens[1:] + [""]):
-        if after == "=" and before in ("{", ";"):
-            shape.append(f"field {token}")
-            continue
-        sign = definition.module.operators().get(token, token)
-        try:
-            meant = sources.lookup(definition.module, token.rstrip(".").split("."))
-        except graph.Unknown:
-            meant = None
-        if token == definition.name:
-            shape.append("itself")
-        elif meant:
-            named = token.rstrip(".").split(".")[-1]
-            shape.append(f"{meant[0]!r} {named if named in getattr(meant[0], 'members', ()) else ''}")
-        elif sign in definition.module.items:
-            shape.append(definition.module.items[sign][1])
-        elif re.match(r"[^\W\d]", token):
-            name, dot, field = token.partition(".")
-            shape.append(f"bound {bound.setdefault(name, len(bound))}{dot}{field}")
-        else:
-            shape.append(token)
-    return tuple(shape)
