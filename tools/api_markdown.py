@@ -4,7 +4,7 @@ import re
 
 import api_words
 from api_examples import examples
-from api_model import KEYS_BY_NAME, base_of, error_of, is_law, model, short, shown
+from api_model import KEYS_BY_NAME, base_of, is_law, model, short, shown
 from api_source import CORE
 from common import ROOT, without_prefix
 from written import table
@@ -154,34 +154,11 @@ def broken_links(made):
     return faults
 
 
-def allocator_kind(call):
-    """Returns in which column of the table a call stands, if in any."""
-    if re.search(r"\b_?alloc: Global", call.signature):
-        return "may" if "Result<" in call.signature else "keeps"
-    if re.search(r"\b_?memory: M\b|\bcopying: C\b", call.signature) or call.item.crate == "iloc_memory":
-        return ""
-    return "own" if error_of(call.item) == "AllocError" else ""
-
-
-def allocator_table():
-    """Returns the table of calls that take the allocator, or that may run out of memory without it."""
-    rows, heads = [], ["Type or module", "takes `alloc`, may fail", "takes `alloc` and keeps it, cannot fail"]
-    heads.append("may fail, uses the value's own allocator")
-    for module in model():
-        for entry in module.entries:
-            kinds = [[f"`{it.name}`" for it in entry.calls if allocator_kind(it) == kind] for kind in ("may", "keeps", "own")]
-            if any(kinds) and not entry.see:
-                name = entry.name if entry.kind != "fn" else module.short
-                where = "" if "::" not in module.short or entry.kind == "fn" else f" of `{module.short}`"
-                rows.append((f"`{name}`{where}", *map(", ".join, kinds)))
-    return table(heads, rows) + "\n\n`clone` never takes the allocator: write `x.clone()?`."
-
-
 def rust_row(entry):
     """Returns the row of a type: what changes, and what has another name. None if all is as it is."""
     changed, named = {}, []
     for call in entry.calls:
-        # (what changes but for the allocator and `?`, which allocator_table says)
+        # (what changes but for the allocator and `?`)
         change = api_words.CHANGES.get(f"{call.owner}::{call.name}")
         if call.rust and call.rust.rpartition("::")[2] != call.name:
             named.append(f"`{without_prefix(call.rust, entry.rust + '::')}`: `{call.name}`")
