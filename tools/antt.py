@@ -40,9 +40,6 @@ class Definition:
     def count(self):
         return sum(map(is_code, self.lines))
 
-    def __repr__(self):
-        return f"{'.'.join(self.module.name)}.{self.name}"
-
 
 @dataclass(eq=False)
 class Module:

@@ -1,12 +1,11 @@
 """The pages of public items as Markdown: an index, a page for each module, and the tables of other pages."""
-import os
 import re
 
 import api_words
 from api_examples import examples
 from api_model import KEYS_BY_NAME, base_of, is_law, model, short, shown
 from api_source import CORE
-from common import ROOT, without_prefix
+from common import without_prefix
 from written import table
 
 HOME = "docs/api"
@@ -138,20 +137,6 @@ def pages():
     made = {page_of(it.path): module_page(it) for it in model()}
     made["docs/API.md"] = index()
     return made
-
-
-def broken_links(made):
-    """Returns each link within these pages that leads to no page or to no heading."""
-    headings, faults = {path: set(map(slug, re.findall(r"(?m)^#+ (.*)$", text))) for path, text in made.items()}, []
-    for path, text in made.items():
-        folder = path.rpartition("/")[0]
-        for target, place in re.findall(r"\]\(([\w./]*\.md)?#?([\w-]*)\)", text):
-            page = os.path.normpath(f"{folder}/{target}") if target else path
-            if page not in headings and not os.path.isfile(f"{ROOT}/{page}"):
-                faults.append(f"{path}: no page {target}")
-            elif place and page in headings and place not in headings[page]:
-                faults.append(f"{path}: no heading {place} in {page}")
-    return faults
 
 
 def rust_row(entry):

@@ -24,17 +24,11 @@ def edits_of(crate):
     return good, [it for it in there if it not in good and not it.endswith(".md")]
 
 
-def rests_on(crate):
-    """Returns the paths of what a verdict on the crate's edits rests on, but the edit."""
-    below = [path for it in crate.below() for path in files_of(it.name, ("src", "specs"))]
-    return below + files_of(crate.name, PROVED_PARTS)
-
-
 @functools.lru_cache(maxsize=None)
 def sum_below(crate):
     """Returns the sum of what a verdict on the crate's edits rests on, but the edit."""
-    total = hashlib.sha256(LOGIC.encode())
-    for path in rests_on(crate):
+    total, below = hashlib.sha256(LOGIC.encode()), [path for it in crate.below() for path in files_of(it.name, ("src", "specs"))]
+    for path in below + files_of(crate.name, PROVED_PARTS):
         total.update(f"{os.path.relpath(path, ROOT)}\n{read(path)}".encode())
     return total.hexdigest()
 

@@ -46,13 +46,6 @@ def listed():
     yield ("bytes of a text for WebAssembly", constant("crates/locale_web/src/reading.rt", "MOST"),
            r"pieces,? (?:or|and)(?: of more than)? # bytes|text of more than # bytes|locales\) or # bytes|\(# < length t\)",
            ("docs/PROMISES.md", "bindings/web/README.md", *LIMITS))
-    yield ("bytes of a window", constant("crates/iloc_normalize/src/window.rt", "MOST"),
-           "of at most # bytes: `answer`, in", ("docs/ARCHITECTURE.md",))
-    yield ("bytes of its answer", constant("crates/iloc_normalize/src/answered.rt", "ROOM"), "in a room of # bytes", ("docs/ARCHITECTURE.md",))
-    yield ("bytes of a text that is compared by its answer", constant("crates/iloc_locale/src/comparing.rt", "MOST"),
-           r"of at most # bytes: `answer` \|", ("docs/ARCHITECTURE.md",))
-    yield ("variants that are looked for at once", constant("crates/iloc_langid/src/agreeing.rt", "AT_ONCE"),
-           "looked for # at a time|for up to # variants", ("docs/DECISIONS.md",))
     yield ("steps of rewriting", standing("crates/iloc_locale/specs/LocaleReading.antt", r"\(TextStep languages\) (\d+)"),
            "[Aa]t most # rewriting steps|at most # steps (?:of|lead|away)|At most # steps lead from", STEPS)
     yield ("kinds of subtags", len(re.findall(r"impl WordKind<", "".join(map(read, glob.glob(f"{ROOT}/crates/iloc_subtags/src/*.rt"))))),
