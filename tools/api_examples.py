@@ -266,11 +266,8 @@ def best(lines, name):
 
 
 def faults():
-    """Yields each example that is an arm, on a bare `self`, or a part of a statement; each call that no test, program of rows
-    or user's program makes, as far as its type or its name shows; and how many calls have no example, if they are many."""
-    for (_, *names), (path, number, line) in examples().items():
-        if said_by(line, names[-1]) != line:
-            yield f"the example of {'::'.join(names)} says too little: {line} ({path}:{number})"
+    """Yields each call that no test, program of rows or user's program makes, as far as its type or its name shows; and how
+    many calls have no example, if they are many."""
     made, every = tried_keys(), [it for entry in shown() if not entry.is_law for it in entry.calls]
     yield from (f"{it.title}: no test makes this call: add a row" for it in every if it.key not in made)
     lacking = [it.title for it in every if it.key not in examples()]

@@ -27,7 +27,8 @@ def edits_of(crate):
 @functools.lru_cache(maxsize=None)
 def sum_below(crate):
     """Returns the sum of what a verdict on the crate's edits rests on, but the edit."""
-    total, below = hashlib.sha256(LOGIC.encode()), [path for it in crate.below() for path in files_of(it.name, ("src", "specs"))]
+    below = [path for it in crate.below() for path in files_of(it.name, ("src", "specs"))]
+    total = hashlib.sha256(LOGIC.encode())
     for path in below + files_of(crate.name, PROVED_PARTS):
         total.update(f"{os.path.relpath(path, ROOT)}\n{read(path)}".encode())
     return total.hexdigest()
