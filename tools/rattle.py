@@ -134,6 +134,11 @@ class Item:
         """Returns how many lines its text has, without comments, attributes and blank lines."""
         return sum(bool(it.strip()) and not it.strip().startswith(("//", "#[")) for it in self.lines)
 
+    def __repr__(self):
+        where = "::".join((self.module.crate, *self.module.path_names))
+        owner = f"{self.owner.name}." if self.owner else ""
+        return f"{where}::{owner}{self.name}"
+
 
 @dataclass(eq=False)
 class Source:

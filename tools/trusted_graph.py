@@ -13,11 +13,12 @@ from common import below, crates_of, reached, read, without_prefix
 from rattle import bounds_in, generics, without_generics
 
 SEEN = ("Value", "view", "invariant")  # the members of `Model` by which contracts see a type, and what it always keeps
+PRIMITIVE = set("u8 u16 u32 u64 u128 usize i8 i16 i32 i64 i128 isize bool char str f32 f64".split())
 QUOTE = re.compile(r"⟦<(.+?) as (\w+)(?:<[^⟧]*?>)?>⟧(?:\.(\w+))?")
 
 
 class Unknown(Exception):
-    """A name that its module does not have."""
+    """A name that nothing in scope explains."""
 
 
 class Impl:
@@ -43,7 +44,7 @@ class Sources:
         self.lines = crates_of(f"{root}/crates.txt")
         self.crates = list(self.lines)
         self.modules, self.rust = {}, {}
-        self.unknown = {}  # what cites a name that its module does not have -> names
+        self.unknown = {}  # what cites a name that nothing explains -> names
         for crate in self.crates:
             self.read_specs(crate)
             self.rust[crate] = rt.read_crate(root, crate)
@@ -277,16 +278,34 @@ class Sources:
             if item.owner and (member := self.member(item.owner, names[0])):
                 return member
             named = self.rust_name(item.module, tuple(names))
-            return [named] if named and named.kind in ("struct", "enum", "type", "const", "static") else []
+            if named:
+                return [named] if named.kind in ("struct", "enum", "type", "const", "static") else []
+            return [] if names[0] in PRIMITIVE or names[0] in item.module.names else None
 
-        return found + [it for names in antt.paths_in(text) if names[0] not in bound for it in meant(names)]
+        reader = antt.Names(meant, lambda names: self.is_constructor(scope, names), lambda it: self.note(item, it))
+        reader.walk(antt.tree(text), set(bound))
+        return found + reader.cited
+
+    def is_constructor(self, module, names):
+        """Returns whether a name in a pattern is a constructor, and so binds nothing."""
+        if names[-1] in ("[]", "true", "false", "Some", "None", "Ok", "Err", "◌∷◌", "∷", "refl", "zero", "suc"):
+            return True
+        try:
+            found = self.lookup(module, names)
+        except Unknown:
+            return True
+        if not found:
+            return found is not None and (names[0] in module.items or len(names) > 1)
+        return any(it.kind == "enum" or names[-1] in getattr(it, "members", ()) for it in found)
 
     def note(self, item, name):
         self.unknown.setdefault(item, set()).add(name)
 
     def cited_by_definition(self, item):
-        found = [self.lookup(item.module, names) or () for text in item.parts for names in antt.paths_in(text)]
-        return [it for every in found for it in every if it is not item]
+        meant, is_constructor = (functools.partial(it, item.module) for it in (self.lookup, self.is_constructor))
+        reader = antt.Names(meant, is_constructor, lambda it: self.note(item, it))
+        reader.definition(item.parts)
+        return [it for it in reader.cited if it is not item]
 
     def cited_by_type(self, item):
         """Returns the types of the fields, and the members by which contracts see the type."""

@@ -25,6 +25,9 @@ from written import table
 
 HEADLINE = ("Locale::try_from_utf8", "Locale::normalize_utf8", "Locale::is_well_formed", "Locale::write_to_string")
 ON_MEMORY = "ensures memory"  # the one kind of clause that stands apart: it says when memory may run out
+# what several types have, each its own: its value, its place in an enum, the items of its list, the
+# list with others, the words of an error, how a value of a map is lent
+ALIKE = ("value_of", "place", "items_of", "with_list", "words_of", "lends_value", "lends_slice", "lends_item")
 PAGES = ("docs/REVIEW.md", "docs/CLAUSES.md")
 NEEDED = ("counts", "signatures", "types", "names", "memory", "outside")  # the parts that some page has to have
 PART = re.compile(r"<!-- trusted: (.+?) -->\n(.*?)<!-- /trusted -->", re.S)
@@ -59,8 +62,8 @@ def counted(closure):
 
 
 def unknown(sources):
-    """Returns which names in what was read their modules do not have."""
-    line = "{}: {} cites {}, which is not there".format
+    """Returns which names in what was read nothing in scope explains."""
+    line = "{}: {} cites {}, which nothing in scope explains".format
     return [line(it.where, it.name, ", ".join(sorted(names))) for it, names in sources.unknown.items()]
 
 
@@ -196,6 +199,9 @@ class Pages:
                 wrong.append(f"{names}: {call} has a clause '{kind}': a call of the headline asks nothing of its callers")
             elif kind != ON_MEMORY and (call, name) not in self.shown:
                 wrong.append(f"{names}: the clause {name!r} of {call} is not shown: add a part 'clause {call} {name}'")
+        named = [(it.where, name) for it in self.sources.definitions() for name in (it.name, *it.members)]
+        taken = "{}: {} is a word of antt or of its prelude: name it otherwise".format
+        wrong += [taken(*it) for it in named if it[1] in graph.antt.WORDS]
         return made, wrong
 
     def clauses(self):
@@ -260,9 +266,51 @@ def check(sources):
     """Says which parts of the pages are not what the sources give, and which definitions have no sentence."""
     wrong, outdated, count = stale(sources)
     wrong += unknown(sources)
-    library = graph.closure_of(sources, graph.library(sources))
+    library, every = graph.closure_of(sources, graph.library(sources)), sources.definitions()
     wrong += [f"{it.where}: {it.name} has no sentence" for it in library.definitions if not it.sentence()]
+    # (texts that differ in names of their own alone, signatures aside; and public names, but for what several types have alike)
+    with_text = [it for it in every if it.kind not in ("abstract", "data", "record")]
+    wrong += [f"the same text: {it}" for it in alike(with_text, lambda it: shape_of(sources, it))]
+    with_name = [it for it in every if it.kind != "abstract" and it.is_public() and it.name not in ALIKE]
+    wrong += [f"one name for two things: {it}" for it in alike(with_name, lambda it: it.name)]
     wrong += outdated
     print("\n".join(wrong) if wrong else f"trusted: {' and '.join(PAGES)} are current")
     failed = min(len(wrong), count) or len(wrong)
     return common.counted(max(count - failed, 0), failed)
+
+
+def alike(definitions, key):
+    """Returns for each group of definitions that have the same key their names and places."""
+    groups = {}
+    for it in definitions:
+        groups.setdefault(key(it), []).append(f"{it.name} ({it.where})")
+    return [", ".join(it) for it in groups.values() if len(it) > 1]
+
+
+def shape_of(sources, definition):
+    """Returns the clauses of a definition, with what each name means in the place of the name."""
+    text = " ;; ".join(part[0] for part in definition.parts if part[1] == "clause")
+    shape, bound = [], {}
+    tokens = re.findall(r"\"[^\"]*\"|\.[^\s(){};,]+|[^\s(){};,]+|[(){};,]", text)
+    for before, token, after in zip([""] + tokens, tokens, tokens[1:] + [""]):
+        if after == "=" and before in ("{", ";"):
+            shape.append(f"field {token}")
+            continue
+        sign = definition.module.operators().get(token, token)
+        try:
+            meant = sources.lookup(definition.module, token.rstrip(".").split("."))
+        except graph.Unknown:
+            meant = None
+        if token == definition.name:
+            shape.append("itself")
+        elif meant:
+            named = token.rstrip(".").split(".")[-1]
+            shape.append(f"{meant[0]!r} {named if named in getattr(meant[0], 'members', ()) else ''}")
+        elif sign in definition.module.items:
+            shape.append(definition.module.items[sign][1])
+        elif re.match(r"[^\W\d]", token) and token not in graph.antt.WORDS:
+            name, dot, field = token.partition(".")
+            shape.append(f"bound {bound.setdefault(name, len(bound))}{dot}{field}")
+        else:
+            shape.append(token)
+    return tuple(shape)

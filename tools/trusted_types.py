@@ -85,7 +85,7 @@ def texts(closure, contracts):
         for _, text, stated in it.clauses(wanted) if isinstance(it, graph.Contract) else ():
             yield stated, text
     for it in [*closure.definitions, *closure.behind]:
-        yield it, "\n".join(it.parts)
+        yield it, "\n".join(part[0] for part in it.parts)
     for it in closure.members:
         yield it, it.body
 

@@ -22,6 +22,12 @@ def table(head, rows):
     return "\n".join([first, "|---" * len(head) + "|", *lines])
 
 
+def svg(width, height, parts):
+    """Returns a picture of this size: these parts on white."""
+    head = f'<svg xmlns="http://www.w3.org/2000/svg" viewBox="0 0 {width} {height}" font-family="sans-serif" font-size="12">'
+    return "\n".join([head, f'<rect width="{width}" height="{height}" fill="white"/>', *parts, "</svg>", ""])
+
+
 def one_or_filled(head, names, tail, indent):
     """Returns head, the names in braces and tail: on one line if it fits, else as rt fmt lays out a list. (Of a line with
     braces rt fmt leaves the last two columns free.)"""
