@@ -21,9 +21,7 @@
  * Functions on texts may be called from any number of threads. So may the const members of a locale, as of any class of
  * the standard library: many threads may read one locale at the same time, while none changes it.
  *
- * A program without exceptions (-fno-exceptions) ends, by std::abort, where another one would see one thrown.
- *
- * Between two lines that say so this header is written by tools/write_calls from the table tools/calls.txt. */
+ * A program without exceptions (-fno-exceptions) ends, by std::abort, where another one would see one thrown. */
 #ifndef ICU_LOCALE_HPP
 #define ICU_LOCALE_HPP
 
@@ -670,8 +668,6 @@ public:
         return *this;
     }
 
-    /* From here on, tools/write_calls writes what tools/calls.txt says. */
-
     /* The whole. base_name is the identifier alone, without extensions. */
     bool is_und() const noexcept { return icu_locale_is_und(&held_); }
     bool is_well_formed() const noexcept { return icu_locale_is_well_formed(&held_); }
@@ -779,8 +775,6 @@ public:
     std::optional<std::string> calendar_algorithm() const { return read(icu_locale_get_calendar_algorithm); }
     std::optional<std::string> hour_cycle() const { return read(icu_locale_get_hour_cycle); }
     std::optional<std::string> numbering_system() const { return read(icu_locale_get_numbering_system); }
-
-    /* To here, tools/write_calls writes it. */
 
     /* The order by parts, which is that of <: -1, 0 or 1. */
     int compare(const locale &other) const noexcept

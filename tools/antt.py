@@ -37,7 +37,6 @@ class Definition:
     members: list = field(default_factory=list)  # constructors, or fields
 
     where = property(lambda self: f"{self.module.path}:{self.line}")
-    group = "definitions"
 
     def sentence(self):
         """Returns the first sentence of the comment above it."""

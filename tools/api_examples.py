@@ -8,7 +8,6 @@ import glob
 import os
 import re
 
-import api_words
 from api_model import shown
 from api_source import CORE, libraries, sources
 from common import ROOT, read, without_prefix, without_suffix
@@ -266,62 +265,9 @@ def best(lines, name):
     return next((it for it in shortened if it[2]), None)
 
 
-@functools.lru_cache(maxsize=None)
-def rows():
-    """Returns the rows of one argument by their first word: the file, the line, the argument, the answer."""
-    found = {}
-    for path in sorted(glob.glob(f"{ROOT}/crates/*/stdin")):
-        path = os.path.relpath(path, ROOT)
-        asked, answers = read(path).split("\n"), read(path.replace("/stdin", "/stdout")).split("\n")
-        if len(asked) == len(answers):
-            for number, (row, answer) in enumerate(zip(asked, answers), 1):
-                if row.count("\t") == 1:
-                    name, argument = row.split("\t")
-                    found.setdefault(name, []).append((path, number, argument, answer))
-    return found
-
-
-def is_plain(argument, answer):
-    """Returns whether a reader of the pages sees at once what the row says."""
-    return 1 < len(argument) <= 36 and len(answer) <= 60 and not re.search(r"[\\`|]", argument)
-
-
-def row_name(path):
-    """Returns the name of the rows of a call: a reader of `str` is tried as that of bytes."""
-    longer = re.sub(r"_str$", "_utf8", path) if path.endswith("_str") else f"{path}_utf8"
-    return api_words.ROWS.get(path) or api_words.ROWS.get(longer)
-
-
-def tried(path):
-    """Returns rows of the call or the type at this path: one that is accepted, one that is refused."""
-    name = row_name(path)
-    fit, changed, refused = None, None, None
-    for file, number, argument, answer in rows().get(name, []):
-        if name.startswith("word-") and not answer.startswith("! "):
-            answer = answer.split(" ")[0]
-        if not answer or not is_plain(argument, answer) or argument == "true":
-            continue
-        row = (file, number, argument, answer)
-        if answer.startswith("! ") or answer == "false":
-            refused = refused or row
-        elif answer.split(" ")[-1] == argument:
-            fit = fit or row
-        else:
-            changed = changed or row
-    return [it for it in (changed or fit, refused) if it]
-
-
-def remark(path):
-    """Returns what the answers of such rows say before the text."""
-    return api_words.ROW_REMARKS.get(row_name(path), "")
-
-
 def faults():
-    """Yields each example that is an arm, on a bare `self`, or a part of a statement; each call that no test, program of rows
-    or user's program makes, as far as its type or its name shows; and how many calls have no example, if they are many."""
-    for (_, *names), (path, number, line) in examples().items():
-        if said_by(line, names[-1]) != line:
-            yield f"the example of {'::'.join(names)} says too little: {line} ({path}:{number})"
+    """Yields each call that no test, program of rows or user's program makes, as far as its type or its name shows; and how
+    many calls have no example, if they are many."""
     made, every = tried_keys(), [it for entry in shown() if not entry.is_law for it in entry.calls]
     yield from (f"{it.title}: no test makes this call: add a row" for it in every if it.key not in made)
     lacking = [it.title for it in every if it.key not in examples()]

@@ -1,12 +1,11 @@
 """The pages of public items as Markdown: an index, a page for each module, and the tables of other pages."""
-import os
 import re
 
 import api_words
-from api_examples import examples, remark, tried
-from api_model import KEYS_BY_NAME, base_of, error_of, is_law, model, short, shown
+from api_examples import examples
+from api_model import KEYS_BY_NAME, base_of, is_law, model, short, shown
 from api_source import CORE
-from common import ROOT, without_prefix
+from common import without_prefix
 from written import table
 
 HOME = "docs/api"
@@ -22,7 +21,7 @@ Every public item that `{CORE}` passes on, one page for each module. Each call h
 - what it needs, if it has a condition;
 - each refusal by name, and when it comes;
 - whether it may run out of memory;
-- an example: a line of a program or a test that the gate runs, or what stands there right of `=>`. A call that only the library needs is shown by the library's own line; one that is made only on a bare `self` has none. *Tried* is a table test: what is given, and what is returned.
+- an example: a line of a program or a test that the gate runs, or what stands there right of `=>`. A call that only the library needs is shown by the library's own line; one that is made only on a bare `self` has none.
 
 `tools/list_api` makes these pages of the sources, and `tools/list_api --check` says whether they are current. `grep -rn WORD docs/api` searches them. A contract stands where its link leads; `tools/trusted CALL`, as `tools/trusted Locale::clear`, prints its clauses with each definition that they cite. docs/FROM_RUST.md has the name of each item in the Rust crate.
 
@@ -52,19 +51,12 @@ def link(entry_path, within):
     return f"[`{short(entry_path)}`]({at}#{slug(name)})"
 
 
-def tried_row(path):
-    """Returns rows that the gate runs of a reader: what is given, and what is answered."""
-    rows = [f"[`{given}`](../../{file}#L{number}) is answered `{answer}`" for file, number, given, answer in tried(short(path))]
-    said = remark(short(path))
-    return [f"- Tried: {'; '.join(rows)}" + (f" ({said})" if said else "") + "."] if rows else []
-
-
-def call_rows(call, module):
+def call_rows(call):
     rows = [f"#### `{call.title}`", "", f"    {call.signature}", "", call.sentence or "."]
     rows += ["", *[it for part in call.details for it in (part, "")]] if call.details else [""]
     facts = [f"- Needs: {it}" for it in call.needs] + ["- Refuses:"] * bool(call.refuses)
     facts += [f"  - `{name}` if {when}." for name, when in call.refuses]
-    facts += [f"- Memory: {call.memory}"] * bool(call.memory) + tried_row(f"{module}::{call.title}")
+    facts += [f"- Memory: {call.memory}"] * bool(call.memory)
     for path, number, line in [examples()[call.key]] if call.key in examples() else []:
         facts.append(f"- Example: `{line}` in [{without_prefix(path, 'crates/')}](../../{path}#L{number})")
     facts += [f"- States: `{it.fact}`" for it in call.item.stated if is_law(call.item)]
@@ -97,9 +89,8 @@ def entry_rows(entry, homes):
     if entry.see:
         return rows + [f"Described at {link(entry.see, entry.module)}.", ""]
     if entry.kind == "fn":
-        return [it.replace("#### ", "### ") for it in call_rows(entry.calls[0], entry.module)]
+        return [it.replace("#### ", "### ") for it in call_rows(entry.calls[0])]
     rows += [entry.sentence or ".", ""] + [it for part in entry.details for it in (part, "")]
-    rows += tried_row(entry.path) + [""] if tried_row(entry.path) else []
     if entry.refusal:
         rows += [f"Its refusal is `{entry.refusal}`.", ""]
     if base_of(entry):
@@ -108,7 +99,7 @@ def entry_rows(entry, homes):
     rows += trait_rows(entry, homes)
     if entry.name == "JsonText":
         rows += ["Types that have it: " + ", ".join(link(it, entry.module) for it in json_types()) + ".", ""]
-    return rows + [it for call in entry.calls for it in call_rows(call, entry.module)]
+    return rows + [it for call in entry.calls for it in call_rows(call)]
 
 
 def json_types():
@@ -148,48 +139,11 @@ def pages():
     return made
 
 
-def broken_links(made):
-    """Returns each link within these pages that leads to no page or to no heading."""
-    headings, faults = {path: set(map(slug, re.findall(r"(?m)^#+ (.*)$", text))) for path, text in made.items()}, []
-    for path, text in made.items():
-        folder = path.rpartition("/")[0]
-        for target, place in re.findall(r"\]\(([\w./]*\.md)?#?([\w-]*)\)", text):
-            page = os.path.normpath(f"{folder}/{target}") if target else path
-            if page not in headings and not os.path.isfile(f"{ROOT}/{page}"):
-                faults.append(f"{path}: no page {target}")
-            elif place and page in headings and place not in headings[page]:
-                faults.append(f"{path}: no heading {place} in {page}")
-    return faults
-
-
-def allocator_kind(call):
-    """Returns in which column of the table a call stands, if in any."""
-    if re.search(r"\b_?alloc: Global", call.signature):
-        return "may" if "Result<" in call.signature else "keeps"
-    if re.search(r"\b_?memory: M\b|\bcopying: C\b", call.signature) or call.item.crate == "iloc_memory":
-        return ""
-    return "own" if error_of(call.item) == "AllocError" else ""
-
-
-def allocator_table():
-    """Returns the table of calls that take the allocator, or that may run out of memory without it."""
-    rows, heads = [], ["Type or module", "takes `alloc`, may fail", "takes `alloc` and keeps it, cannot fail"]
-    heads.append("may fail, uses the value's own allocator")
-    for module in model():
-        for entry in module.entries:
-            kinds = [[f"`{it.name}`" for it in entry.calls if allocator_kind(it) == kind] for kind in ("may", "keeps", "own")]
-            if any(kinds) and not entry.see:
-                name = entry.name if entry.kind != "fn" else module.short
-                where = "" if "::" not in module.short or entry.kind == "fn" else f" of `{module.short}`"
-                rows.append((f"`{name}`{where}", *map(", ".join, kinds)))
-    return table(heads, rows) + "\n\n`clone` never takes the allocator: write `x.clone()?`."
-
-
 def rust_row(entry):
     """Returns the row of a type: what changes, and what has another name. None if all is as it is."""
     changed, named = {}, []
     for call in entry.calls:
-        # (what changes but for the allocator and `?`, which allocator_table says)
+        # (what changes but for the allocator and `?`)
         change = api_words.CHANGES.get(f"{call.owner}::{call.name}")
         if call.rust and call.rust.rpartition("::")[2] != call.name:
             named.append(f"`{without_prefix(call.rust, entry.rust + '::')}`: `{call.name}`")

@@ -287,34 +287,3 @@ CHANGES = {
     "Keywords::remove": "a `&Key`",
     "LiteMap::remove": "a `&K`",
 }
-
-# The rows of the gate's table tests that make a call, by their first word; those of a type for its parsers.
-ROWS = {
-    "langid::LanguageIdentifier::try_from_utf8": "langid",
-    "langid::LanguageIdentifier::try_from_locale_bytes": "head",
-    "langid::LanguageIdentifier::try_from_utf8_with_single_variant": "text-single",
-    "langid::LanguageIdentifier::normalize_utf8": "text-normalid",
-    "locale::Locale::try_from_utf8": "locale",
-    "locale::Locale::normalize_utf8": "text-normal",
-    "locale::Locale::is_well_formed": "locale-well",
-    "locale::Locale::try_from_utf8_with_single_variant_single_keyword_unicode_extension": "text-heapfree",
-    "data::DataLocale::try_from_utf8": "data",
-    "extensions::unicode::SubdivisionId::try_from_utf8": "subdivision",
-    "extensions::unicode::Attributes::try_from_utf8": "attributes",
-    "extensions::unicode::Keywords::try_from_utf8": "keywords",
-    "extensions::unicode::Unicode::try_from_utf8": "unicode",
-    "extensions::unicode::Value::try_from_utf8": "uvalue",
-    "extensions::transform::Transform::try_from_utf8": "transform",
-    "extensions::transform::Value::try_from_utf8": "tvalue",
-    "extensions::other::Other::try_from_utf8": "other",
-    "extensions::private::Private::try_from_utf8": "private",
-    **{f"subtags::{it}": f"word-{it.lower()}" for it in ("Language", "Script", "Region", "Variant", "Subtag")},
-    "extensions::unicode::Key": "word-ukey",
-    "extensions::unicode::Attribute": "word-attribute",
-    "extensions::unicode::SubdivisionSuffix": "word-suffix",
-    "extensions::transform::Key": "word-tkey",
-    "extensions::private::Subtag": "word-private",
-    "preferences::extensions::unicode::keywords::CurrencyType": "word-currency",
-}
-# What answers of these rows say before the text.
-ROW_REMARKS = {"text-normal": "`B`: borrowed, `O`: owned", "text-normalid": "`B`: borrowed, `O`: owned"}

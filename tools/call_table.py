@@ -47,14 +47,12 @@ class Row:
     def __init__(self, line, number, module):
         fields = [it.strip() for it in line.split("|")]
         self.number, self.module, self.count = number, module, len(fields)
-        self.name, given, thing, self.clause, self.says, self.cpp = (fields + [""] * 6)[:6]
+        self.name, given, thing, self.clause, self.says = (fields + [""] * 5)[:5]
         takes, arrow, gives = given.partition("->")
         self.takes, self.gives = takes.split(), gives.strip() if arrow else "status"
         self.kind, _, self.thing = thing.partition(" ")
         self.is_by_hand = self.count == 2
         self.symbol = f"icu_locale_{self.name}"
-        # What is asked for, beside the handle and the place for the answer.
-        self.asked = tuple(it for it in self.takes if it not in ("reads", "changes", "out"))
 
     def length_of(self, text):
         """Returns the name of a text's length in C: plain of the first text, unless that is a key or a value."""
@@ -63,12 +61,11 @@ class Row:
 
 
 class Table:
-    """The rows, the modules of exports, the comments for C++ by the rows that they stand before, and the imports of
-    definitions."""
+    """The rows, the modules of exports, and the imports of definitions."""
 
     def __init__(self, text):
-        self.rows, self.modules, self.comments, self.imports = [], {}, {}, []
-        module, comment = "", []
+        self.rows, self.modules, self.imports = [], {}, []
+        module = ""
         for number, line in enumerate(text.splitlines(), 1):
             head = re.fullmatch(r"\[(\w+)\] (.+)", line)
             if head:
@@ -76,20 +73,16 @@ class Table:
                 self.modules[module] = head[2]
             elif line.startswith("ghost use "):
                 self.imports.append(line)
-            elif line.startswith("// "):
-                comment.append(line[3:])
             elif line.strip() and line[0] != "#":
-                row = Row(line, number, module)
-                self.comments[row.name], comment = comment, []
-                self.rows.append(row)
+                self.rows.append(Row(line, number, module))
 
     def rows_of(self, module):
         return [it for it in self.rows if it.module == module and not it.is_by_hand]
 
 
 def wrong_in_row(row):
-    if row.count not in (2, 5, 6):
-        yield f"a row has two fields, five or six, and this one has {row.count}. The top of the table says which"
+    if row.count not in (2, 5):
+        yield f"a row has two fields or five, and this one has {row.count}. The top of the table says which"
         return
     if not re.fullmatch("[a-z][a-z_]*", row.name):
         yield f"the call `{row.name}` is no name of a call. Write small letters and `_`, without icu_locale_"

@@ -1,8 +1,7 @@
 """Which mutants are to be tried: the list of the named ones, and the verdicts of this checkout.
 
 A verdict holds for one text: of the mutant, of its crate, and of the code and definitions below. It stands in
-out/edits.tsv, and goes with the checkout. The repository keeps one line, tools/edits.tried: the commit on whose text all
-mutants were tried and refused, or `none`. Where nothing that a crate rests on changed since then, none of its is tried."""
+out/edits.tsv, and goes with the checkout."""
 import fcntl
 import functools
 import hashlib
@@ -14,7 +13,7 @@ from common import ROOT, read, rows_of, write
 from kit import LOGIC
 from sources import PROVED_PARTS, files_of
 
-KEPT, TRIED, NAMED = f"{ROOT}/out/edits.tsv", "tools/edits.tried", "tools/named_mutants.txt"
+KEPT, NAMED = f"{ROOT}/out/edits.tsv", "tools/named_mutants.txt"
 EDIT_NAME = re.compile(r"[A-Za-z0-9_-][A-Za-z0-9_.-]*\.edit")
 
 
@@ -25,17 +24,12 @@ def edits_of(crate):
     return good, [it for it in there if it not in good and not it.endswith(".md")]
 
 
-def rests_on(crate):
-    """Returns the paths of what a verdict on the crate's edits rests on, but the edit."""
-    below = [path for it in crate.below() for path in files_of(it.name, ("src", "specs"))]
-    return below + files_of(crate.name, PROVED_PARTS)
-
-
 @functools.lru_cache(maxsize=None)
 def sum_below(crate):
     """Returns the sum of what a verdict on the crate's edits rests on, but the edit."""
+    below = [path for it in crate.below() for path in files_of(it.name, ("src", "specs"))]
     total = hashlib.sha256(LOGIC.encode())
-    for path in rests_on(crate):
+    for path in below + files_of(crate.name, PROVED_PARTS):
         total.update(f"{os.path.relpath(path, ROOT)}\n{read(path)}".encode())
     return total.hexdigest()
 
@@ -65,20 +59,6 @@ def git(*words):
     """Returns what git says, or nothing where it fails."""
     ran = subprocess.run(["git", *words], cwd=ROOT, stdin=subprocess.DEVNULL, capture_output=True, text=True)
     return ran.stdout if ran.returncode == 0 else None
-
-
-@functools.lru_cache(maxsize=None)
-def changed():
-    """Returns the files that changed since all mutants were tried, or None if that is not known."""
-    commit = read(TRIED).split()[0]
-    said = git("diff", "--name-only", commit, "--", "crates") if commit != "none" else None
-    return None if said is None else {*said.split("\n")}
-
-
-def is_changed(crate):
-    """Returns whether anything changed on which verdicts of the crate rest, since all were tried."""
-    paths = rests_on(crate) + edits_of(crate)[0]
-    return changed() is None or any(os.path.relpath(it, ROOT) in changed() for it in paths)
 
 
 def newest_first(crates):

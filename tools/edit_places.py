@@ -14,12 +14,6 @@ ALONE = re.compile(
 
 
 @functools.lru_cache(maxsize=None)
-def blank(text):
-    """Returns the bytes of a source with blanks in the place of comments and quoted texts."""
-    return rattle.blanked(text.decode("latin-1")).encode("latin-1")
-
-
-@functools.lru_cache(maxsize=None)
 def functions(text):
     """Returns (start, body, end, name, owner) of each fn with a body, by the bytes of a text; 'owner' is the head of
     its impl or trait. Inline modules are passed over."""

@@ -28,8 +28,6 @@ PARTS = {
     "region": ("[A-Za-z]{2}|[0-9]{3}", REFUSED_SUBTAG, str.upper),
 }
 SLOTS = 4
-# How table tests name an order.
-ORDERS = {"Less": "-1", "Equal": "0", "Greater": "1"}
 WORDS = ["", "en", "EN", "gsw", "abcd", "Und", "sinhalese", "e", "latn", "LATN", "Arab", "US", "gb", "419", "41", "4190"]
 WORDS += ["posix", "POSIX", "1994", "199a", "a199", "macos", "valencia", "fonipa", "abcdefghi", "rozaj", "biske", "x"]
 WORDS += ["en-US", "-", "en-", "!!", "\N{LATIN SMALL LETTER E WITH ACUTE}a", "foo", "FOO", "attr", "fo", "toolongword"]
@@ -201,50 +199,6 @@ def pairs_wanted():
     every = [*neighbours("locale")]
     wanted = [pair_wanted(normal.decode(), means.decode(), other) for _, normal, other, means in every]
     return [(text, other) for text, _, other, _ in every], wanted
-
-
-def rows_of(crate):
-    """The rows of a crate of table tests, each as its call, its arguments and its answer."""
-    asked, answers = ((TOP / "crates" / crate / it).read_bytes().decode().split("\n")[:-1] for it in ("stdin", "stdout"))
-    for row, answer in zip(asked, answers):
-        call, *words = row.split("\t")
-        yield call, [re.sub(rb"\\x(..)", lambda it: bytes([int(it[1], 16)]), word.encode()) for word in words], answer
-
-
-def rows_wanted():
-    """The pairs of crates/test_locale_rows whose order the vectors have, with order and equality."""
-    given, wanted = [], []
-    for call, texts, answer in rows_of("test_locale_rows"):
-        order, is_same, *_ = [*answer.split(" "), ""]
-        if call == "two-locale" and len(texts) == 2 and order in ORDERS:
-            given.append(tuple(texts))
-            wanted.append(f"{ORDERS[order]} {int(is_same == 'true')}")
-    return given, wanted
-
-
-# For each kind of rows how its words are set in an empty locale, the text before them there, and how that is undone.
-SETTINGS = {
-    "word-language": (b"language\t0\t", "", b"language\t0\t"),
-    "word-script": (b"script\t0\t", "und-", b"script\t0\t"),
-    "word-region": (b"region\t0\t", "und-", b"region\t0\t"),
-    "word-variant": (b"add-variant\t0\t", "und-", b"clear-variants\t0"),
-    "word-ukey": (b"set-keyword\t0\t", "und-u-", b"clear-keywords\t0"),
-    "word-attribute": (b"add-attribute\t0\t", "und-u-", b"clear-attributes\t0"),
-}
-
-
-def settings_wanted():
-    """The words of crates/test_word_rows, each set in an empty locale and taken out of it."""
-    steps, wanted = [], []
-    for call, words, answer in rows_of("test_word_rows"):
-        # The answers to long rows give a length, and no text.
-        if call not in SETTINGS or not words or not words[0] or {*b"\t\n"} & {*words[0]} or answer.startswith("as wanted"):
-            continue
-        start, front, end = SETTINGS[call]
-        normal = answer.split(" ")[0]
-        steps += [start + words[0] + b"\t" * (call == "word-ukey"), end]
-        wanted += [f"{answer}\tund" if answer.startswith("! ") else f"ok\t{front}{normal}".rstrip("-"), "ok\tund"]
-    return steps, wanted
 
 
 class Script:

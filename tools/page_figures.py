@@ -7,7 +7,6 @@ import glob
 import pathlib
 import re
 
-import part_rows
 from written import SPECS_WIDTH as WIDTH
 from common import ROOT, below, crates_of, read, rows_of, stop
 
@@ -47,13 +46,6 @@ def listed():
     yield ("bytes of a text for WebAssembly", constant("crates/locale_web/src/reading.rt", "MOST"),
            r"pieces,? (?:or|and)(?: of more than)? # bytes|text of more than # bytes|locales\) or # bytes|\(# < length t\)",
            ("docs/PROMISES.md", "bindings/web/README.md", *LIMITS))
-    yield ("bytes of a window", constant("crates/iloc_normalize/src/window.rt", "MOST"),
-           "of at most # bytes: `answer`, in", ("docs/ARCHITECTURE.md",))
-    yield ("bytes of its answer", constant("crates/iloc_normalize/src/answered.rt", "ROOM"), "in a room of # bytes", ("docs/ARCHITECTURE.md",))
-    yield ("bytes of a text that is compared by its answer", constant("crates/iloc_locale/src/comparing.rt", "MOST"),
-           r"of at most # bytes: `answer` \|", ("docs/ARCHITECTURE.md",))
-    yield ("variants that are looked for at once", constant("crates/iloc_langid/src/agreeing.rt", "AT_ONCE"),
-           "looked for # at a time|for up to # variants", ("docs/DECISIONS.md",))
     yield ("steps of rewriting", standing("crates/iloc_locale/specs/LocaleReading.antt", r"\(TextStep languages\) (\d+)"),
            "[Aa]t most # rewriting steps|at most # steps (?:of|lead|away)|At most # steps lead from", STEPS)
     yield ("kinds of subtags", len(re.findall(r"impl WordKind<", "".join(map(read, glob.glob(f"{ROOT}/crates/iloc_subtags/src/*.rt"))))),
@@ -69,10 +61,6 @@ def listed():
            ("vectors/README.md", "conformance/README.md", "conformance/peers/README.md"))
     yield "long vectors", lines("vectors/long.in"), r"`long\.in` \| # lines", ("vectors/README.md",)
     yield "real lines", lines("vectors/real.in"), r"`real\.in` has # lines", ("vectors/README.md",)
-    rows = r"Of the rows of `crates/test_part_rows` a locale can say "
-    yield "rows of parts", len(part_rows.rows()), rows + r"[\d,]+ of #", ("docs/BINDINGS.md",)
-    yield "rows of parts of a locale", part_rows.said()[2], rows + "#", ("docs/BINDINGS.md",)
-    yield "rows of parts in Rust", part_rows.said(takes_bytes=False)[2], rows + r"[\d,]+ of [\d,]+, and # in Rust", ("docs/BINDINGS.md",)
     yield "the toolchain", None, "rattle-kit-@", ("README.md", "docs/GATE.md")
     yield "the logic", None, "logic @`|sum=@ ", ("README.md", "docs/CLAUSES.md")
     yield "minutes of ./test --quick", None, r"`\./test --quick`(?: runs the tests)?[\w ,|]*? # minutes", ("README.md", "CONTRIBUTING.md", "docs/GATE.md")

@@ -1,10 +1,9 @@
-"""What a text means as a locale, by docs/DEFINITIONS.md, and random texts: for scripts of calls whose answers come from
-nothing that the library has.
+"""What a text means as a locale, by docs/DEFINITIONS.md: for calls on random texts (conformance/at_random), whose answers come
+from nothing that the library has.
 
 It is written from that page alone, as one function for each rule there. The texts of vectors/ are no part of it, and are
 answered alike (tools/try_bindings sees to that)."""
 import itertools
-import random
 import re
 
 LANGUAGE, SCRIPT, REGION = b"[A-Za-z]{2,3}|[A-Za-z]{5,8}", b"[A-Za-z]{4}", b"[A-Za-z]{2}|[0-9]{3}"
@@ -244,52 +243,3 @@ def placed(text, mode):
         return "-"
     start, end = place(text, mode)
     return f"{start} {end} {expected(text, start, mode)} {hint(text, mode)}"
-
-
-# What random texts are made of: words of each kind, some of each length, some in upper case.
-HEADS = [[b"en", b"EN", b"und", b"gsw", b"english", b"e", b"abcd"], [b"Latn", b"latn", b"CYRL"], [b"US", b"gb", b"419"]]
-VARIANTS = [b"posix", b"POSIX", b"1994", b"macos", b"valencia", b"fonipa", b"rozaj", b"biske", b"1abc"]
-ATTRIBUTES, KEYS = [b"foo", b"BAR", b"attr", b"zzz", b"aaa"], [b"ca", b"CA", b"nu", b"kn", b"hc", b"co", b"rg", b"sd", b"1c"]
-VALUES = [b"true", b"TRUE", b"buddhist", b"islamic", b"civil", b"islamicc", b"h12", b"latn", b"uszzzz", b"gbeng", b"false"]
-FIELDS, WORDS = [b"m0", b"M0", b"h0", b"k0", b"s0"], [b"foo", b"hybrid", b"true", b"din", b"12345678"]
-PRIVATES, SINGLES = [b"a", b"x", b"u", b"foo", b"12345678", b"ab"], [b"a", b"A", b"b", b"1", b"y", b"z", b"w", b"t", b"u"]
-SPOILS = [b"", b"!", b"!!", b"a8", b"x", b"toolongword", b"\xc3\xa9a", b"u", b"en", b"posix", b"true", b"abcd", b"_"]
-
-
-class Texts:
-    """Random texts: most of a locale, some of them spoiled at one place."""
-
-    def __init__(self, seed):
-        self.random = random.Random(seed)
-
-    def some(self, words, most=5):
-        return [self.random.choice(words) for _ in range(self.random.choice([0, 0, 1, 1, 2, 3, most]))]
-
-    def head(self):
-        language, *optional = HEADS
-        words = [self.random.choice(language[:5] if self.random.randrange(20) else language)]
-        words += [self.random.choice(it) for it in optional if self.random.randrange(2)]
-        return words + [*dict.fromkeys(self.some(VARIANTS))]
-
-    def block(self):
-        kind = self.random.choice([b"u", b"u", b"U", b"t", b"T", b"x", b"other", b"other"])
-        if kind in b"uU":
-            return [kind, *self.some(ATTRIBUTES), *(it for key in self.some(KEYS) for it in (key, *self.some(VALUES)))]
-        if kind in b"tT":
-            pairs = (it for key in self.some(FIELDS) for it in (key, self.random.choice(WORDS), *self.some(WORDS)))
-            return [kind, *(self.head() if self.random.randrange(2) else []), *pairs]
-        if kind == b"x":
-            return [kind, *self.some(PRIVATES, 6)]
-        return [self.random.choice(SINGLES), *self.some([*WORDS, b"ab", b"cd"])]
-
-    def one(self):
-        words = self.head()
-        for _ in range(self.random.choice([0, 0, 1, 1, 2, 3, 4])):
-            words += self.block()
-        if self.random.randrange(4) == 0:
-            at = self.random.randrange(len(words) + 1)
-            words[at : at + self.random.randrange(2)] = [self.random.choice(SPOILS)]
-        return b"-".join(words)
-
-    def many(self, number):
-        return [self.one() for _ in range(number)]

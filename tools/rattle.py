@@ -105,7 +105,6 @@ class Item:
     crate = property(lambda self: self.module.crate)
     path = property(lambda self: self.module.path)
     lines = property(lambda self: self.text.split("\n"))
-    group = property(lambda self: "members" if self.kind == "ghost" else "types")
 
     @property
     def derives(self):

@@ -1,16 +1,10 @@
-"""What stands beside the files of a release: their checksums, what each is proved by, and a list of parts and licences."""
-import datetime
+"""What stands beside the files of a release: their checksums, and what each is proved by."""
 import hashlib
-import json
-import os
-import pathlib
-import re
-import shutil
 import subprocess
 
 from common import TOP, below, crates_of
 
-RECORDS = ("SHA256SUMS", "PROVED.txt", "SPDX.json")
+RECORDS = ("SHA256SUMS", "PROVED.txt")
 # Which crates are compiled into a file, by how its name begins. No crate: it is made of sources that are not compiled.
 LIBRARY, PROGRAMS, MODULE = ("icu_locale_c",), ("locale_normal", "locid"), ("locale_web",)
 INSIDE = {
@@ -82,44 +76,3 @@ def proved(folder, release, gate):
                   "it proved the same files before. Anybody with the toolchain may run it again, or rt verdict in crates/NAME.", ""]
         lines += gate.split("\n")[2:]
     return "\n".join(lines).rstrip("\n") + "\n"
-
-
-def licence(name):
-    """Returns the licence of a crate of the toolchain, as SPDX calls it."""
-    kit = pathlib.Path(os.path.realpath(shutil.which("rt"))).parent.parent
-    folder = next((it for it in (kit / "rattle" / name, kit / name) if it.is_dir()), None)
-    texts = [it.read_text(encoding="utf-8", errors="replace") for it in sorted(folder.glob("LICENSE*"))] if folder else []
-    flat = [re.sub(r"\s+", " ", it) for it in texts]
-    found = {"MIT" for it in flat if "Permission is hereby granted, free of charge" in it}
-    found |= {"Apache-2.0" for it in flat if "Apache License" in it and "Version 2.0" in it}
-    return " OR ".join(sorted(found)) or "NOASSERTION"
-
-
-def part(name, version, declared, **more):
-    return {
-        "SPDXID": f"SPDXRef-{re.sub('[^A-Za-z0-9.]', '-', name)}", "name": name, "versionInfo": version,
-        "downloadLocation": "NOASSERTION", "filesAnalyzed": False, "licenseConcluded": declared, "licenseDeclared": declared,
-        "copyrightText": "NOASSERTION", **more,
-    }
-
-
-def spdx(folder, release):
-    """Returns the list of parts and licences, as SPDX 2.3 in JSON: each file of the release, and what of the toolchain is in it."""
-    own = "Copyright (c) 2026 The Jevolamby maintainers"
-    parts, within = [], {}
-    for it in files(folder):
-        checksums = [{"algorithm": "SHA256", "checksumValue": sum_of(it)}]
-        parts.append(part(it.name, release.version, "MIT", copyrightText=own, packageFileName=it.name, checksums=checksums))
-        within[parts[-1]["SPDXID"]] = [f"toolchain-{one}" for one in crates_in(it.name)[1]]
-    version = toolchain_line()
-    parts += [part(it, version, licence(it[len("toolchain-"):])) for it in sorted({one for every in within.values() for one in every})]
-    relate = lambda one, kind, other: {"spdxElementId": one, "relationshipType": kind, "relatedSpdxElement": other}
-    relations = [relate("SPDXRef-DOCUMENT", "DESCRIBES", it) for it in within]
-    relations += [relate(it, "CONTAINS", f"SPDXRef-{one}") for it, every in within.items() for one in every]
-    time = datetime.datetime.fromtimestamp(int(release.time), datetime.timezone.utc).strftime("%Y-%m-%dT%H:%M:%SZ")
-    whole = {
-        "spdxVersion": "SPDX-2.3", "dataLicense": "CC0-1.0", "SPDXID": "SPDXRef-DOCUMENT", "name": f"icu_locale_core {release.version}",
-        "documentNamespace": f"urn:icu-locale-core:{release.version}:{release.commit}",
-        "creationInfo": {"created": time, "creators": ["Tool: tools/release"]}, "packages": parts, "relationships": relations,
-    }
-    return json.dumps(whole, indent=2) + "\n"

@@ -2,7 +2,6 @@
 
 A part stands between `<!-- trusted: WHAT -->` and `<!-- /trusted -->`, where WHAT is one of
 
-- `times`: how long each page takes to read;
 - `counts`: how much the contracts rest on;
 - `clause CALL NAME`: a clause of a contract, word for word;
 - `files PATH ..`: the definitions of these files on which the headline rests, word for word; after
@@ -30,10 +29,7 @@ ON_MEMORY = "ensures memory"  # the one kind of clause that stands apart: it say
 # list with others, the words of an error, how a value of a map is lent
 ALIKE = ("value_of", "place", "items_of", "with_list", "words_of", "lends_value", "lends_slice", "lends_item")
 PAGES = ("docs/REVIEW.md", "docs/CLAUSES.md")
-NEEDED = ("times", "counts", "signatures", "types", "names", "memory", "outside")  # the parts that some page has to have
-# how much is read in a minute
-WORDS, LINES = 220, 6
-CODE = re.compile(r"```text\n(.*?)```", re.S)
+NEEDED = ("counts", "signatures", "types", "names", "memory", "outside")  # the parts that some page has to have
 PART = re.compile(r"<!-- trusted: (.+?) -->\n(.*?)<!-- /trusted -->", re.S)
 
 
@@ -71,14 +67,6 @@ def unknown(sources):
     return [line(it.where, it.name, ", ".join(sorted(names))) for it, names in sources.unknown.items()]
 
 
-def reading(text):
-    """Returns how many words a page has, how many lines of definitions and clauses, and how many words their comments have."""
-    code = [it.strip() for it in "\n".join(CODE.findall(text)).split("\n") if it.strip()]
-    comments = [it[2:] for it in code if it.startswith("--")]
-    words = len(re.sub(r"<!--.*?-->", "", CODE.sub("", text)).split())
-    return words, len(code) - len(comments), len(" ".join(comments).split())
-
-
 class Pages:
     """The headline's closures, and the parts that are made of them."""
 
@@ -86,7 +74,7 @@ class Pages:
         self.sources = sources
         self.whole = graph.closure_of(sources, headline(sources))
         self.plain = without_memory(sources, headline(sources))
-        self.placed, self.shown, self.texts = set(), set(), {}
+        self.placed, self.shown = set(), set()
 
     def part(self, what):
         kind, *words = what.split()
@@ -94,19 +82,6 @@ class Pages:
         if made is None:
             raise Wrong(f"no part is called {kind!r}")
         return made(*words)
-
-    def part_times(self):
-        """Says how long each page takes. Its own words are left out, so that they do not change what they say."""
-        rows, head = [], ["Page", "Words", "Lines of definitions and clauses"]
-        head += [f"Minutes, at {WORDS} words and {LINES} of these lines each"]
-        head += ["Words of comments in definitions", "Minutes with these"]
-        for path, text in self.texts.items():
-            own = lambda found: "" if found[1] == "times" else found[0]
-            words, lines, comments = reading(PART.sub(own, text))
-            minutes = words / WORDS + lines / LINES
-            more = round(minutes + comments / WORDS)
-            rows.append((path, f"{words:,}", f"{lines:,}", round(minutes), f"{comments:,}", more))
-        return table(head, rows)
 
     def part_counts(self):
         meaning = graph.named(self.sources, HEADLINE[0])
@@ -196,12 +171,10 @@ class Pages:
         said += f" These pages show {lines_of(self.plain.definitions):,} of these lines."
         return f"{said} The headline rests on no other, but for memory and for the views of stop 8."
 
-    def made_of(self, path, text, is_wanted, wrong):
-        """Returns the page of this text with those of its parts made anew that are wanted. Notes what cannot be made."""
+    def made_of(self, path, text, wrong):
+        """Returns the page of this text with its parts made anew. Notes what cannot be made."""
 
         def one(found):
-            if not is_wanted(found[1]):
-                return found[0]
             try:
                 return f"<!-- trusted: {found[1]} -->\n{self.part(found[1])}\n<!-- /trusted -->"
             except (Wrong, TypeError) as why:
@@ -213,10 +186,7 @@ class Pages:
     def made(self, texts):
         """Returns the pages with their parts made anew, by their paths, and what is wrong with them."""
         wrong = []
-        for path, text in texts.items():
-            self.texts[path] = self.made_of(path, text, lambda what: what != "times", wrong)
-        # (the last, since it counts all others)
-        made = {path: self.made_of(path, text, lambda what: what == "times", wrong) for path, text in self.texts.items()}
+        made = {path: self.made_of(path, text, wrong) for path, text in texts.items()}
         names = " and ".join(PAGES)
         there = {it[1] for text in texts.values() for it in PART.finditer(text)}
         wrong += [f"{names}: the part {it!r} is on neither page: add it" for it in NEEDED if it not in there]

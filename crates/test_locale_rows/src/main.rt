@@ -5,8 +5,8 @@
 //! The first word of a call is the type that the first argument is parsed as, the second what is asked of it:
 //! `locale-cmp`. `two-TYPE` parses both arguments and compares them. `change-TYPE` takes the steps of the second
 //! argument on the first. `made-TYPE` makes a value of parts and asks the second of it. `text-CALL` is a call of a
-//! text. The calls of JSON, of old raw forms and of refusals stand in `json`, those to be timed in `bench`. Calls of
-//! parts of extensions are tested in `test_part_rows`.
+//! text. The calls of JSON, of old raw forms and of refusals stand in `json`. Calls of parts of extensions are tested in
+//! `test_part_rows`.
 //!
 //! An answer is the printed text, or what each call says. A refusal is `! ` and its words. Calls that change a value,
 //! and those that may allocate, say what it was, the answer, and what it is, joined by ` | `. Of several steps the
@@ -18,7 +18,6 @@
 //! `grow.in` has calls that may allocate, `still.in` calls that allocate nothing.
 #![tactic(auto)]
 
-mod bench;
 mod built;
 mod changes;
 mod identifiers;
@@ -56,7 +55,6 @@ impl Asking for Rows {
             "to" | "write" | "from" | "each" | "io" | "carry" | "error" => json::answer(
                 what, call, out,
             ),
-            "bench" => bench::answer(ask, call, out),
             _ => say(out, "no call"),
         }
     }
