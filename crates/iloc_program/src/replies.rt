@@ -15,10 +15,10 @@ pub(crate) fn write_refusal(error: ParseError, replies: &mut ReplyBlock) -> Resu
     ensures known { OnOk result (error ≢ ParseError.OutOfMemory) }
 {
     match error {
-        ParseError::InvalidLanguage => replies.push_first(*INVALID_LANGUAGE, 39),
-        ParseError::InvalidSubtag => replies.push_first(*INVALID_SUBTAG, 17),
-        ParseError::InvalidExtension => replies.push_first(*INVALID_EXTENSION, 20),
-        ParseError::DuplicatedExtension => replies.push_first(*DUPLICATED_EXTENSION, 23),
+        ParseError::InvalidLanguage => replies.push_first(REASONS[0], 39),
+        ParseError::InvalidSubtag => replies.push_first(REASONS[1], 17),
+        ParseError::InvalidExtension => replies.push_first(REASONS[2], 20),
+        ParseError::DuplicatedExtension => replies.push_first(REASONS[3], 23),
         ParseError::OutOfMemory => Err(AllocError),
     }
 }
@@ -40,6 +40,7 @@ pub(crate) fn reason_of(error: &ParseError) -> (&'static [u8; 48], usize)
     (&REASONS[row], REASON_LENGTHS[row])
 }
 
+// The words of each refusal and a newline, in 48 bytes, so that they are stored at once.
 const REASONS: &[[u8; 48]; 4] = &[
     *b"! The given language subtag is invalid\n         ",
     *b"! Invalid subtag\n                               ",
@@ -47,13 +48,5 @@ const REASONS: &[[u8; 48]; 4] = &[
     *b"! Duplicated extension\n                         ",
 ];
 
+// How many of these bytes are words.
 const REASON_LENGTHS: &[usize; 4] = &[38, 16, 19, 22];
-
-// The words of each refusal and a newline, in 48 bytes, so that they are stored at once.
-const INVALID_LANGUAGE: &[u8; 48] = b"! The given language subtag is invalid\n         ";
-
-const INVALID_SUBTAG: &[u8; 48] = b"! Invalid subtag\n                               ";
-
-const INVALID_EXTENSION: &[u8; 48] = b"! Invalid extension\n                            ";
-
-const DUPLICATED_EXTENSION: &[u8; 48] = b"! Duplicated extension\n                         ";
