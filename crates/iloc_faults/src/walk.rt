@@ -8,6 +8,7 @@ ghost use Rattle.iloc_faults.specs.Places.{IsAccepted, IsFault};
 ghost use Rattle.iloc_faults.specs.States.{IsFaultFound, IsWalked, bare};
 
 use crate::Fault;
+use crate::identifier::read_word;
 use crate::repeats::Room;
 use crate::state::{Part, Stage, State, may_end};
 use crate::step::{refusal, step};
@@ -119,6 +120,35 @@ pub fn walk_behind<R: Room>(room: R, mode: Mode, window: &[u8], len: usize) -> O
         read_only(Part::Head(Stage::Language)),
         len,
     )
+}
+
+/// The same of an identifier. Only words may follow its language, so no block is looked for.
+#[inline(always)]
+pub fn words_behind<R: Room>(room: R, window: &[u8], len: usize) -> Option<Fault>
+    requires inside { len ≤ length window.now }
+    requires begins { IsWord (Language languages) (first_piece (pieces (take len window.now))) }
+    ensures good { result ≡ None
+        → outcome modes.Langid started (pieces (take len window.now)) ≡ None }
+    ensures bad { IfSome result (IsFaultFound modes.Langid (take len window.now)) }
+{
+    let mut at = cursor_in(window, len);
+    let mut stage = Stage::Language;
+    let mut variants = None;
+    'words: loop {
+        if is_last(at) {
+            return None;
+        }
+        at = next(at);
+        let Some((read, left)) = read_word(room, Mode::Langid, stage, variants, at) else {
+            return Some(Fault {
+                refusal: ParseError::InvalidSubtag,
+                start: at.at,
+                end: end_of(at),
+            });
+        };
+        stage = read;
+        variants = left;
+    }
 }
 
 /// Where the first piece of the first bytes of the window ends.
