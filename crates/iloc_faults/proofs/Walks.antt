@@ -223,21 +223,6 @@ module _ (mode : Mode) (t : Text) (at : Cursor) (zero : at.at ≡ 0) (whole : by
 abbrev pub words : Stage → Option ℕ → State
 words stage variants = record { part = Head stage; variants = variants; seen = 0 }
 
--- the piece came, and the text may end with it; a piece that follows is read in this state
-pub record CameBefore (t : Text) (at : Cursor) (s : State) : Type 0 where
-  pub short : IsShortPiece (piece_left at)
-  pub follows : (m : Cursor) → IsNextPiece at m → IsWalked Langid t m s
-  pub ends : at.piece_length ≡ at.remaining → outcome Langid started (pieces t) ≡ None
-
-pub language_before : (t : Text) (at : Cursor) → at.at ≡ 0 → bytes_left at ≡ t →
-    is_word (Language languages) (first_piece (pieces t)) ≡ true →
-    CameBefore t at (words stages.Language None)
-language_before t at first whole begins = record {
-  short = (language_came Langid t at first whole begins).3;
-  follows = walked_behind Langid t at first whole begins;
-  ends = alone_good Langid t at first whole begins;
-}
-
 -- nothing was read, and so no word may come
 pub no_word_else : (at : Cursor) (o : Option (Stage × List Text)) (r : Option (Stage × Option ℕ)) →
     ((w : Stage × Option ℕ) → r ≢ Some w) → IsWordRead Langid at o r → o ≡ None
@@ -245,7 +230,7 @@ no_word_else at o None n h = h
 no_word_else at o (Some w) n h = absurd (n w refl)
 
 -- a piece of one byte is no word
-no_word : (stage : Stage) (vs : List Text) (p : Text) → is_one_byte p ≡ true →
+pub no_word : (stage : Stage) (vs : List Text) (p : Text) → is_one_byte p ≡ true →
     word_next Langid stage vs p ≡ None
 unfolding is_word
 no_word stages.Language vs (c ∷ []) e = refl
@@ -264,7 +249,8 @@ module _ {t : Text} {at : Cursor} {stage : Stage} {variants : Option ℕ}
     | inr o ↦ rw (o, none) refl
   ]
 
-  word_came : (r : Stage × Option ℕ) →
+  -- the word came
+  pub word_came : (r : Stage × Option ℕ) →
       IsWordRead Langid at (word_next Langid stage w.variants (piece_left at)) (Some r) →
       IsPieceRead Langid at (next Langid (reached (Head stage) w.variants w.seen) (piece_left at))
       (Some (words r.0 r.1))
@@ -276,14 +262,3 @@ module _ {t : Text} {at : Cursor} {stage : Stage} {variants : Option ℕ}
     where
       some_not_none : {X : Type 0} {x : X} → Some x ≢ None
       some_not_none e = cc
-
-  -- the word came
-  pub word_before : (r : Stage × Option ℕ) →
-      IsWordRead Langid at (word_next Langid stage w.variants (piece_left at)) (Some r) →
-      CameBefore t at (words r.0 r.1)
-  word_before r h = let came = word_came r h in
-      record {
-        short = came.3;
-        follows = λ m n. walk_on w (words r.0 r.1) came n;
-        ends = λ e. all_good (walk_all w (words r.0 r.1) came e) refl;
-      }
