@@ -1,27 +1,31 @@
 -- What the walk over the pieces of a text says.
 use Rattle.std.proofs.Common.{◌≡◌, ◌≢◌, inl, inr, ℕ, zero, suc, ◌+◌, ◌-◌, ◌<◌, ◌≤◌, true, false, ◌==◌, List}
 use Rattle.std.proofs.Common.{[], ◌∷◌, ◌++◌, length, get_or, drop, Option, Some, None, refl, sym, ap}
+use Rattle.std.proofs.Common.{true≢false}
 use Rattle.std.proofs.Common.{◌∙◌, arith, append_assoc, append-nil, length-append}
 use Rattle.std.specs.List.{slice_split}
-use Rattle.std.proofs.lemmas.Bool.{cases_Bool, eq-eqb, ne_eqb}
+use Rattle.std.proofs.lemmas.Bool.{cases_Bool, eq-eqb, eqb-true, ne_eqb}
 use Rattle.std.proofs.lemmas.List.{get_or-take, get_or-drop}
 use Rattle.std.proofs.lemmas.List.Concat.{flat_map-append}
 use Rattle.iloc_spec_grammar.specs.Syntax.{Text, Language, languages, is_word, is_one_byte, pieces, dashes, first_piece}
 use Rattle.iloc_spec_grammar.specs.Meaning.{InvalidExtension}
 use Rattle.iloc_subtags.specs.Judging.{error_of}
-use Rattle.iloc_pieces.specs.Cursor.{IsNextPiece, piece_left, pieces_left, bytes_left}
+use Rattle.iloc_pieces.specs.Cursor.{IsNextPiece, IsShortPiece, piece_left, pieces_left, bytes_left}
 use Rattle.iloc_pieces.specs.declared.place.Cursor.{Cursor}
 use Rattle.iloc_pieces.proofs.CursorLemmas.{length_rest, next_at, last_piece}
 use Rattle.iloc_normalize.specs.declared.Mode.{Mode}
+use Rattle.iloc_normalize.specs.declared.Mode.TheVariants.{Langid}
 use Rattle.iloc_faults.specs.declared.Fault.{Fault}
 use Rattle.iloc_faults.specs.declared.state.Part.TheVariants.{Start, Head}
+use Rattle.iloc_faults.specs.declared.state.Stage.{Stage}
 use Rattle.iloc_faults.specs.declared.state.Stage.TheVariants as stages
 use Rattle.iloc_faults.specs.declared.state.State.{State}
 use Rattle.iloc_faults.specs.Next.{Reached, started, may_end, next, piece_fault, begins_block, outcome, run}
-use Rattle.iloc_faults.specs.States.{IsPieceRead, IsWalked, IsFaultFound, bare, reached}
+use Rattle.iloc_faults.specs.Next.{word_next}
+use Rattle.iloc_faults.specs.States.{IsPieceRead, IsWordRead, IsWalked, IsFaultFound, bare, reached}
 use Rattle.iloc_faults.proofs.Going.{run_append, verdict_run, goes_on, goes_no_longer}
 use Rattle.iloc_faults.proofs.Bits.{none_seen}
-use Rattle.iloc_faults.proofs.StepReadings.{inside_read, start_read}
+use Rattle.iloc_faults.proofs.StepReadings.{head_read, inside_read, start_read}
 use Rattle.iloc_faults.proofs.VariantsLeft.{some_left}
 use Rattle.iloc_pieces.proofs.FrontLemmas.{first_onto}
 
@@ -212,3 +216,49 @@ module _ (mode : Mode) (t : Text) (at : Cursor) (zero : at.at ≡ 0) (whole : by
   unfolding walk_starts
   walked_behind m follows =
       walk_on (walk_starts mode t at zero whole) (bare 0 (Head stages.Language)) language_came follows
+
+-- ---- words behind a language
+
+-- the stage of an identifier, and what of it was read
+abbrev pub words : Stage → Option ℕ → State
+words stage variants = record { part = Head stage; variants = variants; seen = 0 }
+
+-- nothing was read, and so no word may come
+pub no_word_else : (at : Cursor) (o : Option (Stage × List Text)) (r : Option (Stage × Option ℕ)) →
+    ((w : Stage × Option ℕ) → r ≢ Some w) → IsWordRead Langid at o r → o ≡ None
+no_word_else at o None n h = h
+no_word_else at o (Some w) n h = absurd (n w refl)
+
+-- a piece of one byte is no word
+pub no_word : (stage : Stage) (vs : List Text) (p : Text) → is_one_byte p ≡ true →
+    word_next Langid stage vs p ≡ None
+unfolding is_word
+no_word stages.Language vs (c ∷ []) e = refl
+no_word stages.Script vs (c ∷ []) e = refl
+no_word stages.Region vs (c ∷ []) e = refl
+no_word stage vs [] e = absurd (true≢false (sym e))
+no_word stage vs (c ∷ d ∷ p) e = absurd (omega (arith, eqb-true (length (c ∷ d ∷ p)) 1 e))
+
+module _ {t : Text} {at : Cursor} {stage : Stage} {variants : Option ℕ}
+    (w : IsWalked Langid t at (words stage variants)) where
+  -- no word may come, and so no piece
+  pub word_stops : word_next Langid stage w.variants (piece_left at) ≡ None →
+      next Langid (reached (Head stage) w.variants w.seen) (piece_left at) ≡ None
+  word_stops none = elim (cases_Bool (is_one_byte (piece_left at))) [
+    | inl o ↦ rw o refl
+    | inr o ↦ rw (o, none) refl
+  ]
+
+  -- the word came
+  pub word_came : (r : Stage × Option ℕ) →
+      IsWordRead Langid at (word_next Langid stage w.variants (piece_left at)) (Some r) →
+      IsPieceRead Langid at (next Langid (reached (Head stage) w.variants w.seen) (piece_left at))
+      (Some (words r.0 r.1))
+  word_came r h = elim (cases_Bool (is_one_byte (piece_left at))) [
+    | inl o ↦ absurd (some_not_none (sym h.1 ∙ no_word stage w.variants (piece_left at) o))
+    | inr o ↦ inside_read Langid at (Head stage) w.variants w.seen (rw o refl) (Some (words r.0 r.1))
+        (head_read Langid at (Head stage) w.variants w.seen 0 w.read.seen_are stage refl r h)
+  ]
+    where
+      some_not_none : {X : Type 0} {x : X} → Some x ≢ None
+      some_not_none e = cc

@@ -140,7 +140,7 @@ fn place_behind<R: Room, A: InMode>(room: R, answers: &A, text: Window<'_>) -> (
     ensures place { IsFaultPlace A.mode (text_in text.entry) result.0 result.1 }
     ensures inside { (result.0 ≤ result.1) × (result.1 ≤ length (text_in text.entry)) }
 {
-    match walk::walk_behind(room, answers.mode(), text.bytes, text.len()) {
+    match answers.walk_behind(room, text.bytes, text.len()) {
         Some(found) => (found.start, found.end),
         None => unreachable!(),
     }

@@ -1,18 +1,19 @@
 //! Walks over the pieces of a text until one may not come next.
-ghost use Rattle.std.specs.Prelude.{◌≡◌, ◌↔◌, ◌+◌, ◌≤◌, None, IfSome, length, take};
-ghost use Rattle.iloc_spec_grammar.specs.Syntax.{IsWord, Language, first_piece, languages, pieces};
+ghost use Rattle.std.specs.Prelude.{◌≡◌, ◌↔◌, ◌+◌, ◌≤◌, List, None, IfSome, length, take};
+ghost use Rattle.iloc_spec_grammar.specs.Syntax.{Text, IsWord, Language, first_piece, languages, pieces};
 ghost use Rattle.iloc_pieces.specs.Cursor.{piece_left};
 ghost use Rattle.iloc_normalize.specs.declared.Mode.TheVariants as modes;
-ghost use Rattle.iloc_faults.specs.Next.{started, outcome};
+ghost use Rattle.iloc_faults.specs.Next.{started, outcome, word_next};
 ghost use Rattle.iloc_faults.specs.Places.{IsAccepted, IsFault};
-ghost use Rattle.iloc_faults.specs.States.{IsFaultFound, IsWalked, bare};
+ghost use Rattle.iloc_faults.specs.States.{AreVariantsRead, IsEarly, IsFaultFound, IsWalked, IsWordRead, bare};
 
 use crate::Fault;
+use crate::identifier::read_word;
 use crate::repeats::Room;
 use crate::state::{Part, Stage, State, may_end};
 use crate::step::{refusal, step};
 use iloc_normalize::{Mode, data_refusal};
-use iloc_pieces::cursor::{Cursor, cursor_in, is_last, next};
+use iloc_pieces::cursor::{Cursor, cursor_in, is_last, is_single, next};
 use iloc_subtags::ParseError;
 
 // Where the piece ends.
@@ -119,6 +120,60 @@ pub fn walk_behind<R: Room>(room: R, mode: Mode, window: &[u8], len: usize) -> O
         read_only(Part::Head(Stage::Language)),
         len,
     )
+}
+
+// The next word of an identifier, if one comes. Most other pieces have one byte, which is told at once.
+#[inline(always)]
+fn read_next<R: Room>(
+    room: R,
+    stage: Stage,
+    variants: Option<usize>,
+    at: Cursor<'_>,
+) -> Option<(Stage, Option<usize>)>
+    requires before { (vs : List Text) × AreVariantsRead modes.Langid variants at vs }
+    requires early { IsEarly stage variants }
+    ensures { (vs : List Text) → AreVariantsRead modes.Langid variants at.entry vs
+        → IsWordRead modes.Langid at.entry
+        (word_next modes.Langid stage vs (piece_left at.entry)) result }
+{
+    if is_single(at) {
+        return None;
+    }
+    read_word(room, Mode::Langid, stage, variants, at)
+}
+
+/// The same of an identifier. Only words may follow its language, so no block is looked for.
+#[inline(always)]
+pub fn words_behind<R: Room>(room: R, window: &[u8], len: usize) -> Option<Fault>
+    requires inside { len ≤ length window.now }
+    requires begins { IsWord (Language languages) (first_piece (pieces (take len window.now))) }
+    ensures good { result ≡ None
+        → outcome modes.Langid started (pieces (take len window.now)) ≡ None }
+    ensures bad { IfSome result (IsFaultFound modes.Langid (take len window.now)) }
+{
+    let first = cursor_in(window, len);
+    if is_last(first) {
+        return None;
+    }
+    let mut at = next(first);
+    let mut stage = Stage::Language;
+    let mut variants = None;
+    'words: loop {
+        let Some((read, left)) = read_next(room, stage, variants, at) else {
+            let (start, end) = (at.at, end_of(at));
+            return Some(Fault {
+                refusal: ParseError::InvalidSubtag,
+                start,
+                end,
+            });
+        };
+        if is_last(at) {
+            return None;
+        }
+        stage = read;
+        variants = left;
+        at = next(at);
+    }
 }
 
 /// Where the first piece of the first bytes of the window ends.

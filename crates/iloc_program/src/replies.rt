@@ -31,11 +31,10 @@ pub(crate) fn reason_of(error: &ParseError) -> (&'static [u8; 48], usize)
     ensures text { take result.1 result.0.now ≡ refusal_text error.now }
 {
     let row = match error {
-        ParseError::InvalidLanguage => 0,
+        ParseError::InvalidLanguage | ParseError::OutOfMemory => 0,
         ParseError::InvalidSubtag => 1,
         ParseError::InvalidExtension => 2,
         ParseError::DuplicatedExtension => 3,
-        ParseError::OutOfMemory => unreachable!(),
     };
     (&REASONS[row], REASON_LENGTHS[row])
 }

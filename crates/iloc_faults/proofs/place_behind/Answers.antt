@@ -1,7 +1,6 @@
 use Rattle.std.proofs.Common.{ℕ, None, take, refl, sym, ap, subst, arith}
 use Rattle.iloc_spec_grammar.specs.Syntax.{Text, Language, languages, IsWord, pieces, first_piece}
 use Rattle.iloc_pieces.specs.Window.{text_in}
-use Rattle.iloc_normalize.specs.declared.Mode.{Mode}
 use Rattle.iloc_faults.specs.Places.{IsAccepted}
 use Rattle.iloc_faults.specs.States.{IsFaultFound}
 use Rattle.iloc_faults.proofs.FaultAnswers.{good_is, place_is}
@@ -19,15 +18,13 @@ walk_behind-requires g c =
 pub unreachable-requires : goal.unreachable-requires
 unreachable-requires g c =
     let text = ap (λ (n : ℕ). take n c.args.text.bytes.now) c.len.ensures in
-    let h = good_is c.mode.result (take c.len.result c.args.text.bytes.now) None
+    let h = good_is g.A.InMode.mode (take c.len.result c.args.text.bytes.now) None
     (λ e. c.in-None.ensures.good e) tt in
-    c.requires.refused (subst (λ (m : Mode). IsAccepted m (text_in c.args.text)) c.mode.ensures
-    (subst (IsAccepted c.mode.result) text (h.0 refl)))
+    c.requires.refused (subst (IsAccepted g.A.InMode.mode) text (h.0 refl))
 
 pub returns : goal.returns
 returns g c =
     let text = ap (λ (n : ℕ). take n c.args.text.bytes.now) c.len.ensures in
     let found = place_is g.A.InMode.mode (text_in c.args.text) c.in-Some.found
-    (subst (λ (m : Mode). IsFaultFound m (text_in c.args.text) c.in-Some.found) c.mode.ensures
-    (subst (λ (t : Text). IsFaultFound c.mode.result t c.in-Some.found) text c.in-Some.ensures.bad)) in
+    (subst (λ (t : Text). IsFaultFound g.A.InMode.mode t c.in-Some.found) text c.in-Some.ensures.bad) in
     record { place = found.1; inside = (found.2, found.3) }
