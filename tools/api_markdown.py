@@ -1,11 +1,12 @@
 """The pages of public items as Markdown: an index, a page for each module, and the tables of other pages."""
+import os
 import re
 
 import api_words
 from api_examples import examples
 from api_model import KEYS_BY_NAME, base_of, is_law, model, short, shown
 from api_source import CORE
-from common import without_prefix
+from common import ROOT, without_prefix
 from written import table
 
 HOME = "docs/api"
@@ -152,6 +153,20 @@ def rust_row(entry):
     said = [f"{', '.join(names)}: {how}" for how, names in changed.items()]
     here, there = f"`{short(entry.path)}`", api_words.BASES.get(entry.name) or f"`{short(entry.rust)}`"
     return (there, here, "; ".join(named + said)) if said or named or there != here else None
+
+
+def broken_links(made):
+    """Returns each link within these pages that leads to no page or to no heading."""
+    headings, faults = {path: set(map(slug, re.findall(r"(?m)^#+ (.*)$", text))) for path, text in made.items()}, []
+    for path, text in made.items():
+        folder = path.rpartition("/")[0]
+        for target, place in re.findall(r"\]\(([\w./]*\.md)?#?([\w-]*)\)", text):
+            page = os.path.normpath(f"{folder}/{target}") if target else path
+            if page not in headings and not os.path.isfile(f"{ROOT}/{page}"):
+                faults.append(f"{path}: no page {target}")
+            elif place and page in headings and place not in headings[page]:
+                faults.append(f"{path}: no heading {place} in {page}")
+    return faults
 
 
 def from_rust_table():
