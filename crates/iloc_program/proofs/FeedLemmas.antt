@@ -1,5 +1,5 @@
 -- A piece of an input, line by line.
-use Rattle.std.proofs.Common.{◌≡◌, ◌≢◌, ℕ, ◌+◌, ◌<◌, List, [], ◌∷◌, ◌++◌, length, sym, ap, ◌∙◌, subst}
+use Rattle.std.proofs.Common.{◌≡◌, ◌≢◌, ℕ, ◌+◌, ◌<◌, List, [], ◌∷◌, ◌++◌, length, refl, sym, ap, ◌∙◌, subst}
 use Rattle.std.proofs.Common.{arith, append_assoc, append-nil, length-append}
 use Rattle.std.specs.Prelude.{Result, Ok, Err, OnOk, IfOk}
 use Rattle.std.proofs.lemmas.List.Elements.{All-nil, All-append}
@@ -40,6 +40,43 @@ module _ (IsEntry : ℕ → Text → Text → Type 0) (n : ℕ) (pending : Text)
     where
       regrouped : (a b c : Text) → (a ++ b) ++ (c ++ 10 ∷ []) ≡ a ++ (((b ++ c) ++ 10 ∷ []) ++ [])
       regrouped a b c = rw (append-nil ((b ++ c) ++ 10 ∷ [])) (simp append_assoc)
+
+  -- no line ended
+  pub Feeds-open : (piece pending' : Text) → IsOneLine pending → IsOneLine piece →
+      pending' ≡ pending ++ piece → Feeds IsEntry n pending piece old old pending' n
+  Feeds-open piece pending' one more e = record {
+    lines = [];
+    added = [];
+    are_lines = tt;
+    one_line = subst IsOneLine (sym e) (All-append (λ c. c ≢ 10) pending piece one more);
+    cut = sym e;
+    are_entries = refl;
+    adds = sym (append-nil old);
+    counts = omega arith;
+  }
+
+  -- what is fed behind them
+  pub Feeds-both : (taken later mid new middle pending' : Text) (next next' : ℕ) →
+      Feeds IsEntry n pending taken old mid middle next
+      → Feeds IsEntry next middle later mid new pending' next'
+      → Feeds IsEntry n pending (taken ++ later) old new pending' next'
+  Feeds-both taken later mid new middle pending' next next' f g =
+      let there : AreEntries IsEntry (n + length f.lines) g.lines g.added =
+      subst (λ (k : ℕ). AreEntries IsEntry k g.lines g.added) f.counts g.are_entries in
+      record {
+        lines = f.lines ++ g.lines;
+        added = f.added ++ g.added;
+        are_lines = AllByRecursion-append IsOneLine f.lines g.lines f.are_lines g.are_lines;
+        one_line = g.one_line;
+        cut = sym (append_assoc pending taken later) ∙ ap (λ (t : Text). t ++ later) f.cut
+            ∙ append_assoc (ended f.lines) middle later
+            ∙ ap (λ (t : Text). ended f.lines ++ t) g.cut
+            ∙ sym (append_assoc (ended f.lines) (ended g.lines) pending')
+            ∙ ap (λ (t : Text). t ++ pending') (sym (ended-append f.lines g.lines));
+        are_entries = AreEntries-append IsEntry n f.lines g.lines f.added g.added f.are_entries there;
+        adds = g.adds ∙ ap (λ (t : Text). t ++ g.added) f.adds ∙ append_assoc old f.added g.added;
+        counts = omega (arith, f.counts, g.counts, length-append f.lines g.lines);
+      }
 
 -- a line and its newline were taken too
 pub taken_with : (piece taken rest line later next : Text) → piece ≡ taken ++ rest →

@@ -1,5 +1,5 @@
 //! Lines that come in pieces, and their replies.
-ghost use Rattle.std.specs.Prelude.{◌≡◌, ◌+◌, ◌≤◌, [], ◌∷◌, ◌++◌, take, length, map, IfSome, MatchOption, IfOk, OnOk, OnErr, IsOkUnless, ◌<◌, vec_len};
+ghost use Rattle.std.specs.Prelude.{◌≡◌, ◌≢◌, ◌+◌, ◌≤◌, Some, [], ◌∷◌, ◌++◌, take, length, map, IfSome, MatchOption, IfOk, OnOk, OnErr, IsOkUnless, ◌<◌, vec_len};
 ghost use Rattle.std.specs.Io.KnownBytes.{Appends};
 ghost use Rattle.iloc_writeable.specs.Growth.{AddsBeginning};
 ghost use Rattle.iloc_program.specs.Replies.{AnswersLine, FeedsReplies, RepliesTo};
@@ -158,19 +158,23 @@ fn answer_as(
     }
 }
 
-// Adds the normal text of the line and a newline, or returns why it is refused. The call is one for all modes.
+// Adds the normal text of the line and a newline, or returns why it is refused; if an allocation fails, that. The call is
+// one for all modes.
 #[inline(never)]
 fn answer_read(
     mode: Mode,
     line: Window<'_>,
     spans: &mut Spans,
     replies: &mut ReplyBlock,
-) -> Result<Option<ParseError>, AllocError>
-    ensures { IfOk result
-        (AnswersLine mode (text_in line.entry) (held replies.old) (held replies.new)) }
+) -> Option<ParseError>
+    ensures { result ≢ Some ParseError.OutOfMemory
+        → AnswersLine mode (text_in line.entry) (held replies.old) (held replies.new) result }
 {
     let lead = read_lead(mode, line);
-    answer_as(mode, lead, line, spans, replies)
+    match answer_as(mode, lead, line, spans, replies) {
+        Ok(answered) => answered,
+        Err(_) => Some(ParseError::OutOfMemory),
+    }
 }
 
 // The same, without that call where the line is plain, or where what is asked first refuses it.
@@ -194,7 +198,13 @@ pub(crate) fn answer_in(
     if let Some(Lead::Refused(refusal)) = read_found(mode, line) {
         return Ok(Some(refusal));
     }
-    answer_read(mode, line, spans, replies)
+    let Some(refusal) = answer_read(mode, line, spans, replies) else {
+        return Ok(None);
+    };
+    match refusal {
+        ParseError::OutOfMemory => Err(AllocError),
+        _ => Ok(Some(refusal)),
+    }
 }
 
 // Adds the reply to the line, in a mode that is only known when it runs.

@@ -1,12 +1,12 @@
 //! Lines that come in pieces, and the entries that are written for each.
-ghost use Rattle.std.specs.Prelude.{◌≡◌, ◌+◌, ◌≤◌, [], ◌++◌, length, take, IfOk, OnOk};
+ghost use Rattle.std.specs.Prelude.{◌≡◌, [], ◌++◌, IfOk, OnOk};
 ghost use Rattle.iloc_pieces.specs.Window.{text_in};
 ghost use Rattle.iloc_program.specs.Lines.{IsOneLine};
 ghost use Rattle.iloc_program.specs.ReplyBlock.{held};
 ghost use Rattle.iloc_program.specs.Numbered.{AddsText};
 ghost use Rattle.iloc_program.specs.Feeding.{Feeds, Ends};
 
-use crate::lines::line_end;
+use crate::lines::{line_end, split_line};
 use crate::numbered::{Listing, Lists};
 use crate::{ReplyBlock, RunError};
 use iloc_pieces::Window;
@@ -53,36 +53,48 @@ fn end_line<L: Lists>(
     Ok(())
 }
 
-// Adds what is written for the line that is pending and ends with this one, which begins these bytes. Returns the number
-// of the next one. Only a line that began before these bytes, or one near their end, is copied.
-#[inline(always)]
-fn list_next<L: Lists>(
+// Adds what is written for the lines that these bytes end, if nothing is pending, keeps the start of the next line, and
+// returns its number. Only a line near the end of the bytes is copied.
+fn feed_lines<L: Lists>(
     lists: &mut L,
     listing: Listing,
     number: u64,
     pending: &mut Vec<u8>,
-    line: &[u8],
     bytes: &[u8],
     replies: &mut ReplyBlock,
-) -> Result<(), AllocError>
-    requires within { length line.now ≤ length bytes.now }
-    requires front { line.now ≡ take (length line.now) bytes.now }
-    ensures pending { OnOk result (pending.new.items ≡ []) }
-    ensures replies { OnOk result (AddsText
-        (L.is_entry listing number (pending.old.items ++ line.now))
-        (held replies.old) (held replies.new)) }
+) -> Result<u64, RunError>
+    requires { pending.old.items ≡ [] }
+    ensures { IfOk result (Feeds (L.is_entry listing) number [] bytes.now
+        (held replies.old) (held replies.new) pending.new.items) }
 {
-    if !pending.is_empty() || bytes.len() - line.len() < 16 {
-        return end_line(lists, listing, number, pending, line, replies);
+    let mut rest = bytes;
+    let mut next = number;
+    'lines: loop {
+        let end = line_end(rest);
+        let (line, later) = rest.split_at(end);
+        if later.len() < 16 {
+            if later.is_empty() {
+                break 'lines;
+            }
+            end_line(lists, listing, next, pending, line, replies)?;
+        } else {
+            let window = Window {
+                bytes: &rest[..end + 16],
+            };
+            list_line(lists, listing, next, window, replies)?;
+        }
+        let Some(after) = next.checked_add(1) else {
+            return Err(RunError::Read);
+        };
+        next = after;
+        rest = &later[1..];
     }
-    let window = Window {
-        bytes: &bytes[..line.len() + 16],
-    };
-    list_line(lists, listing, number, window, replies)
+    pending.extend_from_slice(rest)?;
+    Ok(next)
 }
 
 // Adds what is written for the lines that this piece of the input ends, keeps the start of the next line, and returns
-// its number.
+// its number. What is pending is listed first, so that no other line asks for it.
 pub(crate) fn feed<L: Lists>(
     lists: &mut L,
     listing: Listing,
@@ -95,23 +107,18 @@ pub(crate) fn feed<L: Lists>(
     ensures { IfOk result (Feeds (L.is_entry listing) number pending.old.items piece.now
         (held replies.old) (held replies.new) pending.new.items) }
 {
-    let mut rest = piece;
-    let mut next = number;
-    'lines: loop {
-        let end = line_end(rest);
-        let (line, later) = rest.split_at(end);
-        if later.is_empty() {
-            break 'lines;
-        }
-        let Some(after) = next.checked_add(1) else {
-            return Err(RunError::Read);
-        };
-        list_next(lists, listing, next, pending, line, rest, replies)?;
-        next = after;
-        rest = &later[1..];
+    if pending.is_empty() {
+        return feed_lines(lists, listing, number, pending, piece, replies);
     }
-    pending.extend_from_slice(rest)?;
-    Ok(next)
+    let Some((line, later)) = split_line(piece) else {
+        pending.extend_from_slice(piece)?;
+        return Ok(number);
+    };
+    let Some(after) = number.checked_add(1) else {
+        return Err(RunError::Read);
+    };
+    end_line(lists, listing, number, pending, line, replies)?;
+    feed_lines(lists, listing, after, pending, later, replies)
 }
 
 // Adds what is written for a last line without a newline, if there is one, and returns the number of the next one.

@@ -31,21 +31,24 @@ pub(crate) fn reason_of(error: &ParseError) -> (&'static [u8; 48], usize)
     ensures text { take result.1 result.0.now ≡ refusal_text error.now }
 {
     let row = match error {
-        ParseError::InvalidLanguage | ParseError::OutOfMemory => 0,
+        ParseError::InvalidLanguage => 0,
         ParseError::InvalidSubtag => 1,
         ParseError::InvalidExtension => 2,
         ParseError::DuplicatedExtension => 3,
+        ParseError::OutOfMemory => 4,
     };
     (&REASONS[row], REASON_LENGTHS[row])
 }
 
-// The words of each refusal and a newline, in 48 bytes, so that they are stored at once.
-const REASONS: &[[u8; 48]; 4] = &[
+// The words of each refusal and a newline, in 48 bytes, so that they are stored at once. That an allocation fails is no
+// refusal: its row is never asked for, and is there so that a refusal's number is its row.
+const REASONS: &[[u8; 48]; 5] = &[
     *b"! The given language subtag is invalid\n         ",
     *b"! Invalid subtag\n                               ",
     *b"! Invalid extension\n                            ",
     *b"! Duplicated extension\n                         ",
+    *b"                                                ",
 ];
 
 // How many of these bytes are words.
-const REASON_LENGTHS: &[usize; 4] = &[38, 16, 19, 22];
+const REASON_LENGTHS: &[usize; 5] = &[38, 16, 19, 22, 0];

@@ -1,36 +1,41 @@
-use Rattle.std.proofs.Common.{◌≡◌, ◌+◌, ◌-◌, ◌<◌, [], ◌∷◌, ◌++◌, length, take, drop, ap, ◌∙◌, sym, subst}
-use Rattle.std.proofs.Common.{arith, rules}
-use Rattle.std.proofs.lemmas.Bool.Decides.{nat_tests}
-use Rattle.std.proofs.lemmas.List.{drop-drop, length-drop, take_all}
+use Rattle.std.proofs.Common.{◌≡◌, ◌≢◌, ℕ, ◌+◌, [], ◌∷◌, ◌++◌, ap, ◌∙◌, sym, subst, refl, append_assoc, append-nil, rules}
+use Rattle.std.proofs.lemmas.List.Elements.{All-nil}
+use Rattle.std.proofs.lemmas.Result.{IfOk-weaker}
 use Rattle.iloc_spec_grammar.specs.Syntax.{Text}
+use Rattle.iloc_program.specs.Feeding.{Feeds}
 use Rattle.iloc_program.specs.Lines.{IsOneLine}
 use Rattle.iloc_program.specs.ReplyBlock.{held}
-use Rattle.iloc_program.proofs.FeedLemmas.{Feeds-line, taken_with}
+use Rattle.iloc_program.proofs.FeedLemmas.{Feeds-both, Feeds-line, Feeds-open}
 use Rattle.iloc_program.proofs.listed_lines.feed.Goals as goal
 
-pub lines-preserved : goal.lines-preserved
-lines-preserved g c =
-    let taken = c.lines.invariant.0 in
-    let rest = c.lines.rest.now in
-    let end = c.line_end-end.result in
-    let line = c.split_at.result.0.now in
-    let later = c.split_at.result.1.now in
-    let ends = c.line_end-end.ensures in
-    let front : line ≡ take end rest = c.split_at.ensures.front in
-    let back_len : length rest ≡ end + length later =
-    omega (arith, c.split_at.ensures.back_len, ends.within) in
-    let less : end < length rest =
-    grind (arith, nat_tests, back_len, c.is_empty.ensures, c.if-is_empty.false) in
-    let newline : rest ≡ line ++ 10 ∷ drop (end + 1) rest =
-    ends.newline less ∙ ap (λ (t : Text). t ++ 10 ∷ drop (end + 1) rest) (sym front) in
-    let next_is : take (length later - 1) (drop 1 later) ≡ drop (end + 1) rest =
-    take_all _ (drop 1 later) (omega (arith, length-drop 1 later))
-    ∙ ap (drop 1) c.split_at.ensures.back ∙ drop-drop 1 end rest in
-    let one_more : c.in-Some.after ≡ c.lines.next + 1 = search rules in (
-      taken ++ (line ++ 10 ∷ []),
-      taken_with _ taken rest line (drop (end + 1) rest) _ c.lines.invariant.1 newline next_is,
-      Feeds-line _ _ _ _ taken line (held c.lines.replies) _ c.lines.pending.items _ c.lines.next _
-          c.lines.invariant.2
-          (subst IsOneLine (sym front) ends.before) c.in_ok-list_next.ensures.replies one_more
-          c.in_ok-list_next.ensures.pending,
-    )
+-- the line that was pending is listed, and then what follows it
+pub returns : goal.returns
+returns g c =
+    let IsEntry = g.L.Lists.is_entry c.args.listing in
+    let pending = c.args.pending.now.items in
+    let old = held c.args.replies.now in
+    let line = c.in-Some.line.now in
+    let later = c.in-Some.later.now in
+    let mid = held c.end_line.new.replies in
+    let new = held c.feed_lines-2.new.replies in
+    let last = c.feed_lines-2.new.pending.items in
+    let one_more : c.in-Some-checked_add.after ≡ c.args.number + 1 = search rules in
+    let first : Feeds IsEntry c.args.number pending (line ++ 10 ∷ []) old mid [] c.in-Some-checked_add.after =
+    Feeds-line IsEntry _ pending old [] line old mid pending [] _ _
+    (Feeds-open IsEntry _ pending old [] pending c.requires (All-nil (λ (b : ℕ). b ≢ 10))
+    (sym (append-nil pending)))
+    c.in-Some.ensures.0 c.in_ok-end_line.ensures.replies one_more refl in
+    let whole : (line ++ 10 ∷ []) ++ later ≡ c.args.piece.now =
+    append_assoc line (10 ∷ []) later ∙ sym c.in-Some.ensures.1 in
+    IfOk-weaker c.feed_lines-2.result (Feeds IsEntry c.in-Some-checked_add.after [] later mid new last)
+    (Feeds IsEntry c.args.number pending c.args.piece.now old new last)
+    (λ next then. subst (λ (t : Text). Feeds IsEntry c.args.number pending t old new last next) whole
+    (Feeds-both IsEntry _ pending old _ later mid new [] last _ next first then))
+    c.feed_lines-2.ensures
+
+-- no line ended
+pub returns-in_default : goal.returns-in_default
+returns-in_default g c =
+    let one : IsOneLine c.args.piece.now = search rules in
+    Feeds-open (g.L.Lists.is_entry c.args.listing) _ _ _ _ _ c.requires one
+    c.in_ok-extend_from_slice.ensures.items
