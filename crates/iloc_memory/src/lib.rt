@@ -9,7 +9,7 @@
 //! It promises: a request that is granted does what the same call of `std` does, and one that is refused leaves the list
 //! as it was and makes `refused` true. At an `Ample` memory nothing is refused.
 //!
-//! It stands on `std` alone, and on reading three lines: that the two requests of `impl Memory for Global` pass on the
+//! It stands on `std` alone, and on reading three lines: that the three requests of `impl Memory for Global` pass on the
 //! answer of `std`, since `std` states nothing of a refusal. Whether `std` asked the heap is the word of `std`: a `Vec`
 //! also refuses without asking if its block would be larger than `isize::MAX` bytes. Everything else is proved.
 #![tactic(auto)]
@@ -17,9 +17,11 @@
 ghost use Rattle.std.specs.Prelude.{◌≡◌, ◌+◌, ◌≤◌, ◌++◌, ◌∷◌, [], ℕ, ⊤, length, insert, OnOk, OnErr, IfOk};
 ghost use Rattle.std.specs.Vec.{vec_len, vec_capacity};
 ghost use Rattle.std.specs.String.{string_bytes, string_len, string_capacity};
+ghost use Rattle.std.specs.BTreeMap.{insert_entry};
 ghost use Rattle.iloc_memory.specs.Refusals.{RefusedWithin};
 
 use std::alloc::{AllocError, Global};
+use std::collections::BTreeMap;
 
 /// What gives room for items, or refuses it. It is passed by value, as an allocator is.
 pub trait Memory: Copy {
@@ -44,6 +46,21 @@ pub trait Memory: Copy {
         ensures len { vec_len list.new ≡ vec_len list.old }
         ensures room { OnOk result (vec_len list.new + additional ≤ vec_capacity list.new) }
         ensures refusal { OnErr result (refused (vec_len list.old + additional)) };
+
+    /// An empty tree. It asks for no room.
+    fn empty_tree<K: Ord, V>(self) -> BTreeMap<K, V>
+        ensures { result.entries ≡ [] };
+
+    /// Puts a pair into a tree, in place of one with its key. Refusal: `AllocError`, and the tree is as before.
+    fn insert_in_tree<K: Ord + Drop, V: Drop>(
+        self,
+        tree: &mut BTreeMap<K, V>,
+        key: K,
+        value: V,
+    ) -> Result<Option<V>, AllocError>
+        ensures ok { OnOk result (tree.new.entries ≡ insert_entry K.cmp tree.old.entries key value) }
+        ensures err { OnErr result (tree.new.entries ≡ tree.old.entries) }
+        ensures refusal { OnErr result (refused 1) };
 }
 
 /// Memory that refuses nothing. Code that is proved for every memory is so for such a one, where it never runs out.
@@ -69,6 +86,21 @@ impl Memory for Global {
     #[inline(always)]
     fn reserve<T>(self, list: &mut Vec<T>, additional: usize) -> Result<(), AllocError> {
         list.reserve(additional)
+    }
+
+    #[inline(always)]
+    fn empty_tree<K: Ord, V>(self) -> BTreeMap<K, V> {
+        BTreeMap::new(self)
+    }
+
+    #[inline(always)]
+    fn insert_in_tree<K: Ord + Drop, V: Drop>(
+        self,
+        tree: &mut BTreeMap<K, V>,
+        key: K,
+        value: V,
+    ) -> Result<Option<V>, AllocError> {
+        Ok(tree.insert(key, value)?)
     }
 }
 

@@ -6,7 +6,8 @@ ghost use Rattle.iloc_normalize.specs.declared.Mode.TheVariants as Modes;
 
 use crate::Mode;
 use crate::leads::{Lead, lead_of_outlined, read_found, read_lead};
-use crate::writing::{Written, write_normal};
+use crate::writing::{Written, write_with};
+use iloc_outline::growth::InPlace;
 use iloc_pieces::Window;
 use iloc_spans::spans::Spans;
 use iloc_subtags::ParseError;
@@ -73,7 +74,7 @@ fn answer_after<'a>(mode: Mode, lead: Lead, text: Window<'_>, room: &'a mut [u8]
         return Answered::Nothing;
     }
     let mut spans = Spans::new();
-    match write_normal(mode, lead, text, &mut spans, room) {
+    match write_with(InPlace, mode, lead, text, &mut spans, room) {
         Written::Normal(end) => Answered::Normal(&room[..end]),
         written => match written.refusal() {
             Some(error) => Answered::Refused(error),

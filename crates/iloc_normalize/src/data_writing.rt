@@ -1,5 +1,5 @@
 //! Writes the normal texts of data locales.
-ghost use Rattle.std.specs.Prelude.{◌≡◌, ◌+◌, ◌-◌, ◌≤◌, ◌∷◌, ◌++◌, codes, length, take};
+ghost use Rattle.std.specs.Prelude.{◌≡◌, ◌≢◌, ◌+◌, ◌-◌, ◌≤◌, ◌∷◌, ◌++◌, codes, length, take};
 ghost use Rattle.iloc_spec_grammar.specs.Syntax.{HasWords, SpelledIdentifier, is_same, join, languages, lower, upper};
 ghost use Rattle.iloc_spec_parts.specs.DataLocales.{DataLocale, data_text, whole};
 ghost use Rattle.iloc_outline.specs.Identifier.{front_text};
@@ -167,7 +167,8 @@ fn write_named(text: Window<'_>, head: &DataHead, value: &SubdivisionValue, to: 
 pub(crate) fn write_data(text: Window<'_>, to: &mut [u8]) -> Written
     requires begins { BeginsWithLanguage (text_in text) }
     requires room { length text.bytes.now ≤ length to.old }
-    ensures { IsNormalWritten Mode.Data (text_in text.entry) to.new result }
+    ensures written { IsNormalWritten Mode.Data (text_in text.entry) to.new result }
+    ensures some { result ≢ Written.Nothing }
 {
     match read_data(text.bytes, text.len()) {
         Data::Head(head) => {

@@ -11,7 +11,8 @@
 //! It promises in the words of the grammar (`IsNormalWritten`, `IsAnswered`) that what is written is the normal text of what
 //! the text means, or that the text has the fault. A normal text is at most four bytes longer than the text, and only
 //! where a subdivision gives a data locale its region. `Nothing` says that the text is beyond the outline (`IsBeyond`):
-//! more than 64 pieces, or more bytes than there is room for. Where the spans may grow it then says that memory was refused.
+//! more than 64 pieces, or more bytes than there is room for. `write_normal` says it only if memory was refused, for at most
+//! as many spans as the text has pieces (`refused`).
 #![tactic(auto)]
 
 ghost use Rattle.std.specs.Prelude.{◌≡◌, ◌↔◌, Some};

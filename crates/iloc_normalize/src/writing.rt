@@ -1,6 +1,7 @@
 //! Writes the normal text of a text, in each mode.
-ghost use Rattle.std.specs.Prelude.{◌≡◌, ◌≤◌, length};
-ghost use Rattle.iloc_spec_grammar.specs.Syntax.{Text};
+ghost use Rattle.std.specs.Prelude.{◌≡◌, ◌≢◌, ◌≤◌, length};
+ghost use Rattle.iloc_memory.specs.Refusals.{RefusedWithin};
+ghost use Rattle.iloc_spec_grammar.specs.Syntax.{Text, pieces};
 ghost use Rattle.iloc_pieces.specs.Window.{text_in};
 ghost use Rattle.iloc_outline.specs.Outlines.{BeginsWithLanguage};
 ghost use Rattle.iloc_normalize.specs.Answered.{HasRefusal, IsLead, IsNormalWritten, refusal_of};
@@ -10,6 +11,7 @@ ghost use Rattle.iloc_normalize.specs.declared.Mode.TheVariants as modes;
 use crate::Mode;
 use crate::data_writing::write_data;
 use crate::leads::Lead;
+use iloc_memory::Memory;
 use iloc_outline::growth::{Growing, Growth, InPlace};
 use iloc_outline::outline::{Outlined, outline_identifier, outline_locale};
 use iloc_outline::printing::copy_outline;
@@ -38,8 +40,10 @@ impl Written {
     // Nothing, for this reason.
     #[inline(always)]
     pub(crate) fn refused(error: ParseError) -> Self
-        ensures { (mode : Mode) (text room : Text) → HasRefusal mode text error
+        ensures written { (mode : Mode) (text room : Text) → HasRefusal mode text error
             → IsNormalWritten mode text room result }
+        ensures some { (mode : Mode) (text : Text) → HasRefusal mode text error
+            → result ≢ Written.Nothing }
     {
         match error {
             ParseError::InvalidLanguage => Written::InvalidLanguage,
@@ -66,9 +70,10 @@ impl Written {
 }
 
 /// Writes the normal text in the mode of a text, of which the beginning shows this (`leads`). Up to sixteen bytes more are
-/// stored behind what is written.
+/// stored behind what is written. `Nothing` says that memory was refused.
 #[inline(always)]
-pub fn write_normal(
+pub fn write_normal<M: Memory>(
+    memory: M,
     mode: Mode,
     lead: Lead,
     text: Window<'_>,
@@ -77,60 +82,110 @@ pub fn write_normal(
 ) -> Written
     requires lead { IsLead mode (text_in text) lead }
     requires room { length text.bytes.now ≤ length to.old }
-    ensures { IsNormalWritten mode (text_in text.entry) to.new result }
+    ensures written { IsNormalWritten mode (text_in text.entry) to.new result }
+    ensures refused { result ≡ Written.Nothing
+        → RefusedWithin M.refused (length (pieces (text_in text.entry))) }
+{
+    write_with(Growing { memory }, mode, lead, text, spans, to)
+}
+
+/// Writes it with room for more spans as this says.
+#[inline(always)]
+pub(crate) fn write_with<G: Growth>(
+    growth: G,
+    mode: Mode,
+    lead: Lead,
+    text: Window<'_>,
+    spans: &mut Spans,
+    to: &mut [u8],
+) -> Written
+    requires lead { IsLead mode (text_in text) lead }
+    requires room { length text.bytes.now ≤ length to.old }
+    ensures written { IsNormalWritten mode (text_in text.entry) to.new result }
+    ensures refused { result ≡ Written.Nothing
+        → RefusedWithin G.refused (length (pieces (text_in text.entry))) }
 {
     match lead {
         Lead::Refused(error) => Written::refused(error),
-        Lead::Outline => write_outlined(mode, text, spans, to),
+        Lead::Outline => write_outlined(growth, mode, text, spans, to),
     }
 }
 
 // Writes it of a text that begins with a language.
 #[inline(always)]
-fn write_outlined(mode: Mode, text: Window<'_>, spans: &mut Spans, to: &mut [u8]) -> Written
+fn write_outlined<G: Growth>(
+    growth: G,
+    mode: Mode,
+    text: Window<'_>,
+    spans: &mut Spans,
+    to: &mut [u8],
+) -> Written
     requires begins { BeginsWithLanguage (text_in text) }
     requires room { length text.bytes.now ≤ length to.old }
-    ensures { IsNormalWritten mode (text_in text.entry) to.new result }
+    ensures written { IsNormalWritten mode (text_in text.entry) to.new result }
+    ensures refused { result ≡ Written.Nothing
+        → RefusedWithin G.refused (length (pieces (text_in text.entry))) }
 {
     match mode {
-        Mode::Langid => write_identifier(text, spans, to),
-        Mode::Locale => write_locale(text, spans, to),
+        Mode::Langid => write_identifier(growth, text, spans, to),
+        Mode::Locale => write_locale(growth, text, spans, to),
         Mode::Data => write_data(text, to),
     }
 }
 
 // Writes the normal text of an identifier.
 #[inline(never)]
-fn write_identifier(text: Window<'_>, spans: &mut Spans, to: &mut [u8]) -> Written
+fn write_identifier<G: Growth>(
+    growth: G,
+    text: Window<'_>,
+    spans: &mut Spans,
+    to: &mut [u8],
+) -> Written
     requires begins { BeginsWithLanguage (text_in text) }
     requires room { length text.bytes.now ≤ length to.old }
-    ensures { IsNormalWritten modes.Langid (text_in text.entry) to.new result }
+    ensures written { IsNormalWritten modes.Langid (text_in text.entry) to.new result }
+    ensures refused { result ≡ Written.Nothing
+        → RefusedWithin G.refused (length (pieces (text_in text.entry))) }
 {
-    match identifier_in::<InPlace>(text, spans, to) {
-        Written::Nothing => write_long_identifier(text, spans, to),
+    match identifier_in(InPlace, text, spans, to) {
+        Written::Nothing => write_long_identifier(growth, text, spans, to),
         written => written,
     }
 }
 
 // Writes it where the room in place is too small.
 #[inline(never)]
-fn write_long_identifier(text: Window<'_>, spans: &mut Spans, to: &mut [u8]) -> Written
+fn write_long_identifier<G: Growth>(
+    growth: G,
+    text: Window<'_>,
+    spans: &mut Spans,
+    to: &mut [u8],
+) -> Written
     requires begins { BeginsWithLanguage (text_in text) }
     requires room { length text.bytes.now ≤ length to.old }
-    ensures { IsNormalWritten modes.Langid (text_in text.entry) to.new result }
+    ensures written { IsNormalWritten modes.Langid (text_in text.entry) to.new result }
+    ensures refused { result ≡ Written.Nothing
+        → RefusedWithin G.refused (length (pieces (text_in text.entry))) }
 {
-    identifier_in::<Growing>(text, spans, to)
+    identifier_in(growth, text, spans, to)
 }
 
 // Writes it with spans in this room.
 #[inline(always)]
-fn identifier_in<G: Growth>(text: Window<'_>, spans: &mut Spans, to: &mut [u8]) -> Written
+fn identifier_in<G: Growth>(
+    growth: G,
+    text: Window<'_>,
+    spans: &mut Spans,
+    to: &mut [u8],
+) -> Written
     requires begins { BeginsWithLanguage (text_in text) }
     requires room { length text.bytes.now ≤ length to.old }
-    ensures { IsNormalWritten modes.Langid (text_in text.entry) to.new result }
+    ensures written { IsNormalWritten modes.Langid (text_in text.entry) to.new result }
+    ensures refused { result ≡ Written.Nothing
+        → RefusedWithin G.refused (length (pieces (text_in text.entry))) }
 {
     let len = text.len();
-    match outline_identifier::<G>(text.bytes, len, spans) {
+    match outline_identifier(growth, text.bytes, len, spans) {
         Outlined::Normal(outline) => {
             Written::Normal(copy_outline(text.bytes, len, &outline, spans, to))
         }
@@ -141,36 +196,47 @@ fn identifier_in<G: Growth>(text: Window<'_>, spans: &mut Spans, to: &mut [u8]) 
 
 // Writes the normal text of a locale.
 #[inline(never)]
-fn write_locale(text: Window<'_>, spans: &mut Spans, to: &mut [u8]) -> Written
+fn write_locale<G: Growth>(growth: G, text: Window<'_>, spans: &mut Spans, to: &mut [u8]) -> Written
     requires begins { BeginsWithLanguage (text_in text) }
     requires room { length text.bytes.now ≤ length to.old }
-    ensures { IsNormalWritten modes.Locale (text_in text.entry) to.new result }
+    ensures written { IsNormalWritten modes.Locale (text_in text.entry) to.new result }
+    ensures refused { result ≡ Written.Nothing
+        → RefusedWithin G.refused (length (pieces (text_in text.entry))) }
 {
-    match locale_in::<InPlace>(text, spans, to) {
-        Written::Nothing => write_long_locale(text, spans, to),
+    match locale_in(InPlace, text, spans, to) {
+        Written::Nothing => write_long_locale(growth, text, spans, to),
         written => written,
     }
 }
 
 // Writes it where the room in place is too small.
 #[inline(never)]
-fn write_long_locale(text: Window<'_>, spans: &mut Spans, to: &mut [u8]) -> Written
+fn write_long_locale<G: Growth>(
+    growth: G,
+    text: Window<'_>,
+    spans: &mut Spans,
+    to: &mut [u8],
+) -> Written
     requires begins { BeginsWithLanguage (text_in text) }
     requires room { length text.bytes.now ≤ length to.old }
-    ensures { IsNormalWritten modes.Locale (text_in text.entry) to.new result }
+    ensures written { IsNormalWritten modes.Locale (text_in text.entry) to.new result }
+    ensures refused { result ≡ Written.Nothing
+        → RefusedWithin G.refused (length (pieces (text_in text.entry))) }
 {
-    locale_in::<Growing>(text, spans, to)
+    locale_in(growth, text, spans, to)
 }
 
 // Writes it with spans in this room.
 #[inline(always)]
-fn locale_in<G: Growth>(text: Window<'_>, spans: &mut Spans, to: &mut [u8]) -> Written
+fn locale_in<G: Growth>(growth: G, text: Window<'_>, spans: &mut Spans, to: &mut [u8]) -> Written
     requires begins { BeginsWithLanguage (text_in text) }
     requires room { length text.bytes.now ≤ length to.old }
-    ensures { IsNormalWritten modes.Locale (text_in text.entry) to.new result }
+    ensures written { IsNormalWritten modes.Locale (text_in text.entry) to.new result }
+    ensures refused { result ≡ Written.Nothing
+        → RefusedWithin G.refused (length (pieces (text_in text.entry))) }
 {
     let len = text.len();
-    match outline_locale::<G>(text.bytes, len, spans) {
+    match outline_locale(growth, text.bytes, len, spans) {
         Outlined::Normal(outline) => {
             Written::Normal(copy_outline(text.bytes, len, &outline, spans, to))
         }

@@ -3,6 +3,7 @@ use Rattle.std.proofs.Common.{
   ◌≡◌,
   ◌≢◌,
   ℕ,
+  ◌+◌,
   ◌-◌,
   ◌<◌,
   ◌≤◌,
@@ -122,6 +123,18 @@ module _ (r : Role) (l at : Cursor) (old : Spans) (mid : List Span) (last : ℕ)
   takes_past new e =
       taken r l w.fields old new last o n w.each
       (rw e at w.gathers)
+
+  -- no more spans were put than pieces were passed
+  pub takes_few : length mid + length (pieces_left at) ≤ length (held_spans old) + length (pieces_left l)
+  takes_few =
+      omega (
+        arith,
+        gathers_few _ _ _ _ _ _ _ w.gathers,
+        length-map w.fields (field_part r),
+        ap length w.past.pieces,
+        length-append (fields_pieces w.fields) (pieces_left at),
+        length-fields_pieces w.fields,
+      )
 
   -- where there is no room
   pub takes_full : 64 ≤ length mid → IsTooMuch old (length (pieces_left l))

@@ -1,4 +1,5 @@
 pub mod RoleLemmas
+pub mod RefusalLemmas
 pub mod Maps
 pub mod PartsInOrder
 pub mod PrintedBlocks

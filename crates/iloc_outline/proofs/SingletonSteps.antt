@@ -2,6 +2,7 @@
 use Rattle.std.proofs.Common.{
   ◌≡◌,
   ℕ,
+  ◌+◌,
   ◌-◌,
   ◌<◌,
   ◌≤◌,
@@ -54,6 +55,7 @@ use Rattle.iloc_outline.specs.Parts.{rank}
 use Rattle.iloc_outline.specs.Reading.{IsTooMuch}
 use Rattle.iloc_pieces.specs.declared.place.Cursor.{Cursor}
 use Rattle.iloc_outline.specs.declared.reading.Found.TheVariants.{End, Next, Bad, Repeated, Full}
+use Rattle.iloc_spans.specs.Spans.{held_spans}
 use Rattle.iloc_spans.specs.declared.spans.Spans.{Spans}
 use Rattle.iloc_outline.proofs.BlocksLemmas.{
   IsAt,
@@ -227,6 +229,11 @@ module _ {l : Cursor} {old : Spans} {o : Bool} {at : Cursor} {last : ℕ} {now :
     pub too_many : (j : Cursor) → IsBlockRead byte_at m j now mid p k Full
         → IsTooMuch old (length (pieces_left l))
     too_many j r = grind (arith, read_full)
+
+    -- no more spans were put than pieces were passed
+    pub passed_few : length (held_spans now) + (1 + length (pieces_left m))
+        ≤ length (held_spans old) + length (pieces_left l)
+    passed_few = grind arith
 
     -- the block is put behind the others, and rest follows
     pub stays_last : (rest : List Text) → IsRead byte_at (whole_text l) behind rest now mid p k → (r : ℕ)

@@ -2,6 +2,7 @@
 use Rattle.std.proofs.Common.{
   ◌≡◌,
   ◌⊎◌,
+  ◌+◌,
   ◌≤◌,
   ℕ,
   Bool,
@@ -164,6 +165,17 @@ module _ (r : Role) (l at : Cursor) (old : Spans) (mid : List Span) (last : ℕ)
       walked r l w.words old new last o n (sym (ap (words_of r) w.past.pieces ∙ cut)) w.each
       (rw e at w.gathers)
       w.differ
+
+  -- no more spans were put than pieces were passed
+  pub walks_few : length mid + length (pieces_left at) ≤ length (held_spans old) + length (pieces_left l)
+  walks_few =
+      omega (
+        arith,
+        gathers_few _ _ _ _ _ _ _ w.gathers,
+        length-map w.words (word_part r),
+        ap length w.past.pieces,
+        length-append w.words (pieces_left at),
+      )
 
   -- where there is no room
   pub walks_full : 64 ≤ length mid → IsTooMuch old (length (pieces_left l))

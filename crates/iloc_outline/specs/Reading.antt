@@ -4,6 +4,7 @@ use Rattle.std.specs.Prelude.{length, map}
 use Rattle.std.specs.Prelude.{flat_map, ⊤, Option, Some, None}
 use Rattle.std.specs.List.{AllByRecursion}
 use Rattle.std.specs.Char.{to_ascii_lowercase}
+use Rattle.iloc_memory.specs.Refusals.{RefusedWithin}
 use Rattle.iloc_spec_grammar.specs.Syntax.{Text, Kind, Field, Fields, code_t, front, first_piece, languages}
 use Rattle.iloc_spec_grammar.specs.Syntax.{Attribute, Variant, UnicodeKey, TransformKey, is_word, IsWord}
 use Rattle.iloc_spec_grammar.specs.Syntax.{IsKeyword, IsField, is_one_byte, lower, word_cmp, fields_pieces}
@@ -37,6 +38,10 @@ pub record Puts (t : Text) (added : List Part) (ps : List Text) (old new : Spans
 -- there is no room for what so many pieces may need
 abbrev pub IsTooMuch : Spans → ℕ → Type 0
 IsTooMuch old n = 64 < length (held_spans old) + n
+
+-- room was refused for the spans that there are, and at most so many more
+abbrev pub IsRefused : (ℕ → Type 0) → Spans → ℕ → Type 0
+IsRefused Refused old n = RefusedWithin Refused (length (held_spans old) + n)
 
 -- Variants and attributes.
 

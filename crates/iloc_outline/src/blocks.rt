@@ -1,10 +1,10 @@
 //! Reads the blocks of a locale.
-ghost use Rattle.std.specs.Prelude.{◌≡◌, ◌≢◌, true};
+ghost use Rattle.std.specs.Prelude.{◌≡◌, ◌≢◌, ◌+◌, length, true};
 ghost use Rattle.std.specs.Char.{is_ascii_alphanumeric};
 ghost use Rattle.iloc_spec_grammar.specs.Syntax.{code_u, is_one_byte};
 ghost use Rattle.iloc_outline.specs.Blocks.{AreBegun, AreBlocksRead, HasSingletonBefore, IsBlockReadAt};
-ghost use Rattle.iloc_pieces.specs.Cursor.{IsLater, piece_left, whole_text};
-ghost use Rattle.iloc_outline.specs.Reading.{FollowsSingleton, reader_at};
+ghost use Rattle.iloc_pieces.specs.Cursor.{IsLater, piece_left, pieces_left, whole_text};
+ghost use Rattle.iloc_outline.specs.Reading.{FollowsSingleton, IsRefused, reader_at};
 ghost use Rattle.iloc_outline.specs.Parts.{rank};
 
 use crate::growth::Growth;
@@ -39,6 +39,7 @@ fn rank_of(byte: u8) -> u64
 // What follows the singleton, whose byte in lower case is given.
 #[inline(always)]
 fn read_body<G: Growth>(
+    growth: G,
     byte: u8,
     start: usize,
     cursor: &mut Cursor<'_>,
@@ -48,19 +49,22 @@ fn read_body<G: Growth>(
     requires follows { FollowsSingleton start cursor.old }
     requires singleton { HasSingletonBefore byte start cursor.old }
     requires letter { is_ascii_alphanumeric byte ≡ true }
-    ensures { IsBlockReadAt byte start (reader_at cursor.old spans.old in_order.old)
+    ensures read { IsBlockReadAt byte start (reader_at cursor.old spans.old in_order.old)
         (reader_at cursor.new spans.new in_order.new) result }
+    ensures refused { result ≡ Found.Full
+        → IsRefused G.refused spans.old (1 + length (pieces_left cursor.old)) }
 {
     if byte == b'u' {
-        return read_unicode::<G>(start, cursor, spans, in_order);
+        return read_unicode(growth, start, cursor, spans, in_order);
     }
-    read_another::<G>(byte, start, cursor, spans, in_order)
+    read_another(growth, byte, start, cursor, spans, in_order)
 }
 
 // What follows another singleton than `u`. The reader of it works on a copy, so that the cursor need not be stored. Where
 // another block follows, the copy is put back but for its window, which is the same.
 #[inline(always)]
 fn read_another<G: Growth>(
+    growth: G,
     byte: u8,
     start: usize,
     cursor: &mut Cursor<'_>,
@@ -71,11 +75,13 @@ fn read_another<G: Growth>(
     requires singleton { HasSingletonBefore byte start cursor.old }
     requires letter { is_ascii_alphanumeric byte ≡ true }
     requires another { byte ≢ code_u }
-    ensures { IsBlockReadAt byte start (reader_at cursor.old spans.old in_order.old)
+    ensures read { IsBlockReadAt byte start (reader_at cursor.old spans.old in_order.old)
         (reader_at cursor.new spans.new in_order.new) result }
+    ensures refused { result ≡ Found.Full
+        → IsRefused G.refused spans.old (1 + length (pieces_left cursor.old)) }
 {
     let mut next = *cursor;
-    let found = read_apart::<G>(byte, start, &mut next, spans, in_order);
+    let found = read_apart(growth, byte, start, &mut next, spans, in_order);
     if let Found::Next = found {
         *cursor = Cursor {
             window: cursor.window,
@@ -92,6 +98,7 @@ fn read_another<G: Growth>(
 // Reads what follows another singleton than `u`. It is apart, so that readers of `u` stay small.
 #[inline(never)]
 fn read_apart<G: Growth>(
+    growth: G,
     byte: u8,
     start: usize,
     cursor: &mut Cursor<'_>,
@@ -101,19 +108,22 @@ fn read_apart<G: Growth>(
     requires follows { FollowsSingleton start cursor.old }
     requires letter { is_ascii_alphanumeric byte ≡ true }
     requires another { byte ≢ code_u }
-    ensures { IsBlockReadAt byte start (reader_at cursor.old spans.old in_order.old)
+    ensures read { IsBlockReadAt byte start (reader_at cursor.old spans.old in_order.old)
         (reader_at cursor.new spans.new in_order.new) result }
+    ensures refused { result ≡ Found.Full
+        → IsRefused G.refused spans.old (1 + length (pieces_left cursor.old)) }
 {
     match byte {
-        b't' => read_transform::<G>(start, cursor, spans, in_order),
-        b'x' => read_private::<G>(start, cursor, spans),
-        _ => read_other::<G>(byte, start, cursor, spans, in_order),
+        b't' => read_transform(growth, start, cursor, spans, in_order),
+        b'x' => read_private(growth, start, cursor, spans),
+        _ => read_other(growth, byte, start, cursor, spans, in_order),
     }
 }
 
 /// Reads the blocks from a singleton on, and puts them in the order of their singletons.
 #[inline(always)]
 pub fn read_blocks<G: Growth>(
+    growth: G,
     cursor: &mut Cursor<'_>,
     spans: &mut Spans,
     in_order: &mut bool,
@@ -121,7 +131,9 @@ pub fn read_blocks<G: Growth>(
     requires later { IsLater cursor.old }
     requires single { is_one_byte (piece_left cursor.old) ≡ true }
     requires begun { AreBegun (whole_text cursor.old) spans.old }
-    ensures { AreBlocksRead cursor.old spans.old spans.new in_order.old in_order.new result }
+    ensures read { AreBlocksRead cursor.old spans.old spans.new in_order.old in_order.new result }
+    ensures refused { result ≡ Blocks.Full
+        → IsRefused G.refused spans.old (length (pieces_left cursor.old)) }
 {
     let mut last = 0;
     'singletons: loop {
@@ -142,7 +154,7 @@ pub fn read_blocks<G: Growth>(
         let from = spans.count;
         let start = cursor.at - 1;
         advance(cursor);
-        let found = read_body::<G>(byte, start, cursor, spans, in_order);
+        let found = read_body(growth, byte, start, cursor, spans, in_order);
         match found {
             Found::Bad => return Blocks::Refused(ParseError::InvalidExtension),
             Found::Repeated => return Blocks::Refused(ParseError::InvalidSubtag),

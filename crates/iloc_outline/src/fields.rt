@@ -1,8 +1,8 @@
 //! Reads keywords of `u` and fields of `t`.
-ghost use Rattle.std.specs.Prelude.{◌≡◌, false};
+ghost use Rattle.std.specs.Prelude.{◌≡◌, false, length};
 ghost use Rattle.iloc_spec_grammar.specs.Syntax.{is_word};
-ghost use Rattle.iloc_pieces.specs.Cursor.{IsLater, IsShortPiece, piece_left};
-ghost use Rattle.iloc_outline.specs.Reading.{AreFieldsRead, IsOfField, role_key};
+ghost use Rattle.iloc_pieces.specs.Cursor.{IsLater, IsShortPiece, piece_left, pieces_left};
+ghost use Rattle.iloc_outline.specs.Reading.{AreFieldsRead, IsOfField, IsRefused, role_key};
 ghost use Rattle.iloc_outline.specs.Fields.{PrintsAsItIs, IsValueRead};
 
 use crate::growth::Growth;
@@ -84,6 +84,7 @@ fn is_edited(role: Role, value: &FieldValue) -> bool
 /// has a value.
 #[inline(always)]
 pub fn read_fields<G: Growth>(
+    growth: G,
     role: Role,
     cursor: &mut Cursor<'_>,
     spans: &mut Spans,
@@ -91,8 +92,10 @@ pub fn read_fields<G: Growth>(
 ) -> Found
     requires role { IsOfField role }
     requires later { IsLater cursor.old }
-    ensures { AreFieldsRead role cursor.old cursor.new spans.old spans.new in_order.old in_order.new
-        result }
+    ensures read { AreFieldsRead role cursor.old cursor.new spans.old spans.new in_order.old
+        in_order.new result }
+    ensures refused { result ≡ Found.Full
+        → IsRefused G.refused spans.old (length (pieces_left cursor.old)) }
 {
     let from = spans.count;
     let mut last = 0;
@@ -110,7 +113,7 @@ pub fn read_fields<G: Growth>(
             role,
             edited: is_edited(role, &value),
         };
-        if let Inserted::Full = put_from::<G>(spans, from, &mut last, span, in_order) {
+        if let Inserted::Full = put_from(growth, spans, from, &mut last, span, in_order) {
             return Found::Full;
         }
         if value.is_end {

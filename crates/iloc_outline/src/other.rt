@@ -1,9 +1,9 @@
 //! Reads what follows the singleton `x`, or another one than `t` and `u`.
-ghost use Rattle.std.specs.Prelude.{◌≡◌, ◌-◌, ◌<◌, ℕ, Bool, [], ◌∷◌, true};
+ghost use Rattle.std.specs.Prelude.{◌≡◌, ◌≢◌, ◌+◌, ◌-◌, ◌<◌, ℕ, Bool, [], ◌∷◌, length, true};
 ghost use Rattle.std.specs.Char.{to_ascii_lowercase};
 ghost use Rattle.iloc_spec_grammar.specs.Syntax.{code_x, is_other_singleton};
-ghost use Rattle.iloc_pieces.specs.Cursor.{IsSpanned, whole_text};
-ghost use Rattle.iloc_outline.specs.Reading.{FollowsSingleton, IsBodyAt, IsPrivateBody, IsPutOther, block_span, reader_at};
+ghost use Rattle.iloc_pieces.specs.Cursor.{IsSpanned, pieces_left, whole_text};
+ghost use Rattle.iloc_outline.specs.Reading.{FollowsSingleton, IsBodyAt, IsPrivateBody, IsPutOther, IsRefused, block_span, reader_at};
 
 use crate::growth::{Growth, put};
 use crate::reading::Found;
@@ -16,11 +16,18 @@ const LAST: u64 = 255;
 
 /// Reads private subtags up to the end of the text, one at least. The singleton begins at the hyphen at `start`.
 #[inline(always)]
-pub fn read_private<G: Growth>(start: usize, cursor: &mut Cursor<'_>, spans: &mut Spans) -> Found
+pub fn read_private<G: Growth>(
+    growth: G,
+    start: usize,
+    cursor: &mut Cursor<'_>,
+    spans: &mut Spans,
+) -> Found
     requires follows { FollowsSingleton start cursor.old }
-    ensures { (c : ℕ) → to_ascii_lowercase c ≡ code_x
+    ensures read { (c : ℕ) → to_ascii_lowercase c ≡ code_x
         → IsSpanned (whole_text cursor.old) start (cursor.old.at - 1) ((c ∷ []) ∷ [])
         → (o : Bool) → IsPrivateBody c cursor.old spans.old spans.new o o result }
+    ensures refused { result ≡ Found.Full
+        → IsRefused G.refused spans.old (1 + length (pieces_left cursor.old)) }
 {
     'words: while is_private(*cursor) {
         if is_last(*cursor) {
@@ -31,7 +38,7 @@ pub fn read_private<G: Growth>(start: usize, cursor: &mut Cursor<'_>, spans: &mu
                 role: Role::Singleton,
                 edited: false,
             };
-            if !put::<G>(spans, span) {
+            if !put(growth, spans, span) {
                 return Found::Full;
             }
             return Found::End;
@@ -45,6 +52,7 @@ pub fn read_private<G: Growth>(start: usize, cursor: &mut Cursor<'_>, spans: &mu
 /// lower case is given, begins at the hyphen at `start`.
 #[inline(always)]
 pub fn read_other<G: Growth>(
+    growth: G,
     byte: u8,
     start: usize,
     cursor: &mut Cursor<'_>,
@@ -53,8 +61,10 @@ pub fn read_other<G: Growth>(
 ) -> Found
     requires follows { FollowsSingleton start cursor.old }
     requires other { is_other_singleton byte ≡ true }
-    ensures { IsBodyAt byte start (reader_at cursor.old spans.old in_order.old)
+    ensures read { IsBodyAt byte start (reader_at cursor.old spans.old in_order.old)
         (reader_at cursor.new spans.new in_order.new) result }
+    ensures refused { result ≡ Found.Full
+        → IsRefused G.refused spans.old (1 + length (pieces_left cursor.old)) }
 {
     let mut is_good = false;
     let mut edited = false;
@@ -69,7 +79,16 @@ pub fn read_other<G: Growth>(
                 return Found::Bad;
             }
             let end = cursor.at + cursor.piece_length;
-            return put_other::<G>(byte, start, end, edited, spans, in_order, Found::End);
+            return put_other(
+                growth,
+                byte,
+                start,
+                end,
+                edited,
+                spans,
+                in_order,
+                Found::End,
+            );
         }
         advance(cursor);
     }
@@ -77,12 +96,22 @@ pub fn read_other<G: Growth>(
         return Found::Bad;
     }
     let end = cursor.at - 1;
-    put_other::<G>(byte, start, end, edited, spans, in_order, Found::Next)
+    put_other(
+        growth,
+        byte,
+        start,
+        end,
+        edited,
+        spans,
+        in_order,
+        Found::Next,
+    )
 }
 
 // Puts the span of the block, which is edited if a piece is left out.
 #[inline(always)]
 fn put_other<G: Growth>(
+    growth: G,
     byte: u8,
     start: usize,
     end: usize,
@@ -91,8 +120,9 @@ fn put_other<G: Growth>(
     in_order: &mut bool,
     found: Found,
 ) -> Found
-    ensures { IsPutOther (block_span byte start end edited) spans.old spans.new in_order.old
+    ensures put { IsPutOther (block_span byte start end edited) spans.old spans.new in_order.old
         in_order.new found result }
+    ensures refused { result ≢ found → IsRefused G.refused spans.old 1 }
 {
     if edited {
         *in_order = false;
@@ -104,7 +134,7 @@ fn put_other<G: Growth>(
         role: Role::Singleton,
         edited,
     };
-    if !put::<G>(spans, span) {
+    if !put(growth, spans, span) {
         return Found::Full;
     }
     found

@@ -1,5 +1,7 @@
 //! The outline of a text, as an identifier or as a locale.
 ghost use Rattle.std.specs.Prelude.{◌≡◌, ◌↔◌, ◌≤◌, ◌<◌, IsTrue, length, take};
+ghost use Rattle.iloc_memory.specs.Refusals.{RefusedWithin};
+ghost use Rattle.iloc_spec_grammar.specs.Syntax.{pieces};
 ghost use Rattle.iloc_pieces.specs.Cursor.{bytes_left};
 ghost use Rattle.iloc_outline.specs.Outlines.{AreHeadRead, BeginsWithLanguage, IsFinished, IsIdentifierOutlined, IsLocaleOutlined};
 
@@ -73,10 +75,17 @@ fn begins_few(window: &[u8], len: usize) -> bool
 
 /// Reads the identifier at the beginning of a text. In `in_order` it says whether its variants are in order.
 #[inline(always)]
-pub fn read_head<G: Growth>(cursor: &mut Cursor<'_>, spans: &mut Spans, in_order: &mut bool) -> Head
+pub fn read_head<G: Growth>(
+    growth: G,
+    cursor: &mut Cursor<'_>,
+    spans: &mut Spans,
+    in_order: &mut bool,
+) -> Head
     requires first { cursor.old.at ≡ 0 }
     requires begins { BeginsWithLanguage (bytes_left cursor.old) }
-    ensures { AreHeadRead (bytes_left cursor.old) cursor.new spans.new in_order.new result }
+    ensures read { AreHeadRead (bytes_left cursor.old) cursor.new spans.new in_order.new result }
+    ensures refused { result ≡ Head.Full
+        → RefusedWithin G.refused (length (pieces (bytes_left cursor.old))) }
 {
     spans.clear();
     *in_order = true;
@@ -89,7 +98,7 @@ pub fn read_head<G: Growth>(cursor: &mut Cursor<'_>, spans: &mut Spans, in_order
     if front.is_all {
         return Head::All(outline);
     }
-    match read_words::<G>(Role::Variant, cursor, spans, in_order) {
+    match read_words(growth, Role::Variant, cursor, spans, in_order) {
         Found::End => Head::All(outline),
         Found::Next => {
             if !is_single(*cursor) {
@@ -119,16 +128,23 @@ pub fn finished(outline: Outline, end: usize, spans: &mut Spans, in_order: bool)
 }
 
 /// The outline of the first `len` bytes as an identifier. `Full` comes only if there are more than 64 pieces, and the room for
-/// their spans does not grow, or memory was refused.
+/// their spans does not grow, or memory was refused (`refused`).
 #[inline(always)]
-pub fn outline_identifier<G: Growth>(window: &[u8], len: usize, spans: &mut Spans) -> Outlined
+pub fn outline_identifier<G: Growth>(
+    growth: G,
+    window: &[u8],
+    len: usize,
+    spans: &mut Spans,
+) -> Outlined
     requires inside { len ≤ length window.now }
     requires begins { BeginsWithLanguage (take len window.now) }
-    ensures { IsIdentifierOutlined (take len window.now) spans.new result }
+    ensures outlined { IsIdentifierOutlined (take len window.now) spans.new result }
+    ensures refused { result ≡ Outlined.Full
+        → RefusedWithin G.refused (length (pieces (take len window.now))) }
 {
     let mut cursor = cursor_in(window, len);
     let mut in_order = true;
-    match read_head::<G>(&mut cursor, spans, &mut in_order) {
+    match read_head(growth, &mut cursor, spans, &mut in_order) {
         Head::All(outline) => Outlined::Normal(finished(outline, len, spans, in_order)),
         Head::Block(_) => Outlined::Refused(ParseError::InvalidSubtag),
         Head::Refused(error) => Outlined::Refused(error),
@@ -138,20 +154,27 @@ pub fn outline_identifier<G: Growth>(window: &[u8], len: usize, spans: &mut Span
 
 /// The outline of the first `len` bytes as a locale. `Full` comes as for an identifier.
 #[inline(always)]
-pub fn outline_locale<G: Growth>(window: &[u8], len: usize, spans: &mut Spans) -> Outlined
+pub fn outline_locale<G: Growth>(
+    growth: G,
+    window: &[u8],
+    len: usize,
+    spans: &mut Spans,
+) -> Outlined
     requires inside { len ≤ length window.now }
     requires begins { BeginsWithLanguage (take len window.now) }
-    ensures { IsLocaleOutlined (take len window.now) spans.new result }
+    ensures outlined { IsLocaleOutlined (take len window.now) spans.new result }
+    ensures refused { result ≡ Outlined.Full
+        → RefusedWithin G.refused (length (pieces (take len window.now))) }
 {
     let mut cursor = cursor_in(window, len);
     let mut in_order = true;
-    let outline = match read_head::<G>(&mut cursor, spans, &mut in_order) {
+    let outline = match read_head(growth, &mut cursor, spans, &mut in_order) {
         Head::All(outline) => return Outlined::Normal(finished(outline, len, spans, in_order)),
         Head::Block(outline) => outline,
         Head::Refused(error) => return Outlined::Refused(error),
         Head::Full => return Outlined::Full,
     };
-    match read_blocks::<G>(&mut cursor, spans, &mut in_order) {
+    match read_blocks(growth, &mut cursor, spans, &mut in_order) {
         Blocks::Good => Outlined::Normal(finished(outline, len, spans, in_order)),
         Blocks::Refused(error) => Outlined::Refused(error),
         Blocks::Full => Outlined::Full,

@@ -7,8 +7,9 @@ ghost use Rattle.iloc_spec_grammar.specs.Syntax.{Text, IsAmong};
 ghost use Rattle.iloc_outline.specs.Parts.{Part};
 ghost use Rattle.iloc_outline.specs.Spans.{Spell};
 ghost use Rattle.iloc_outline.specs.Groups.{AreGroups, is_greater, parts_in};
+ghost use Rattle.iloc_outline.specs.Reading.{IsRefused};
 ghost use Rattle.iloc_spans.specs.Spans.{held_spans};
-ghost use Rattle.iloc_spans.specs.Inserting.{IsInserted, IsPutFrom};
+ghost use Rattle.iloc_spans.specs.Inserting.{IsInserted, IsPutFrom, IsTried};
 
 use crate::growth::{Growth, put};
 use iloc_spans::inserting::{Inserted, insert_in_place};
@@ -19,6 +20,7 @@ use iloc_spans::spans::{MOST, Spans};
 /// among those from `from` on. In `in_order` it says whether it stands behind the others and is not edited.
 #[inline(always)]
 pub fn put_from<G: Growth>(
+    growth: G,
     spans: &mut Spans,
     from: usize,
     last: &mut u64,
@@ -29,16 +31,17 @@ pub fn put_from<G: Growth>(
     ensures put { IsPutFrom from span (held_spans spans.old) (held_spans spans.new)
         last.old last.new in_order.old in_order.new result }
     ensures full { result ≡ Inserted.Full → 64 ≤ length (held_spans spans.old) }
+    ensures refused { result ≡ Inserted.Full → IsTried span.role → IsRefused G.refused spans.old 1 }
 {
     if span.edited {
         *in_order = false;
     }
     if span.word <= *last {
         *in_order = false;
-        return insert_from::<G>(spans, from, span.apart());
+        return insert_from(growth, spans, from, span.apart());
     }
     *last = span.word;
-    if put::<G>(spans, span) {
+    if put(growth, spans, span) {
         Inserted::Put
     } else {
         Inserted::Full
@@ -47,13 +50,14 @@ pub fn put_from<G: Growth>(
 
 /// Puts a span where it belongs among those from `from` on, which are in the order of their numbers and differ.
 #[inline(never)]
-pub fn insert_from<G: Growth>(spans: &mut Spans, from: usize, span: Span) -> Inserted
+pub fn insert_from<G: Growth>(growth: G, spans: &mut Spans, from: usize, span: Span) -> Inserted
     requires { from ≤ spans.old.count }
     ensures inserted { IsInserted from span (held_spans spans.old) (held_spans spans.new) result }
     ensures full { result ≡ Inserted.Full → 64 ≤ length (held_spans spans.old) }
+    ensures refused { result ≡ Inserted.Full → IsTried span.role → IsRefused G.refused spans.old 1 }
 {
     if spans.count >= MOST {
-        return G::insert(spans, from, span);
+        return growth.insert(spans, from, span);
     }
     insert_in_place(spans, from, span)
 }

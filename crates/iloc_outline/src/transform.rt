@@ -1,8 +1,8 @@
 //! Reads what follows the singleton `t`.
-ghost use Rattle.std.specs.Prelude.{◌≡◌, ◌<◌, false};
+ghost use Rattle.std.specs.Prelude.{◌≡◌, ◌+◌, ◌<◌, false, length};
 ghost use Rattle.iloc_spec_grammar.specs.Syntax.{Language, code_t, is_word, languages};
-ghost use Rattle.iloc_pieces.specs.Cursor.{piece_left};
-ghost use Rattle.iloc_outline.specs.Reading.{FollowsSingleton, IsBodyAt, block_span, reader_at};
+ghost use Rattle.iloc_pieces.specs.Cursor.{piece_left, pieces_left};
+ghost use Rattle.iloc_outline.specs.Reading.{FollowsSingleton, IsBodyAt, IsRefused, block_span, reader_at};
 
 use crate::fields::read_fields;
 use crate::growth::{Growth, put};
@@ -31,27 +31,30 @@ fn singleton(start: usize, end: usize) -> Span
 /// `start`.
 #[inline(always)]
 pub fn read_transform<G: Growth>(
+    growth: G,
     start: usize,
     cursor: &mut Cursor<'_>,
     spans: &mut Spans,
     in_order: &mut bool,
 ) -> Found
     requires follows { FollowsSingleton start cursor.old }
-    ensures { IsBodyAt code_t start (reader_at cursor.old spans.old in_order.old)
+    ensures read { IsBodyAt code_t start (reader_at cursor.old spans.old in_order.old)
         (reader_at cursor.new spans.new in_order.new) result }
+    ensures refused { result ≡ Found.Full
+        → IsRefused G.refused spans.old (1 + length (pieces_left cursor.old)) }
 {
     if !is_language(*cursor) {
-        return read_fields_alone::<G>(start, cursor, spans, in_order);
+        return read_fields_alone(growth, start, cursor, spans, in_order);
     }
     let front = read_front(cursor);
-    if !put::<G>(spans, singleton(start, front.end)) {
+    if !put(growth, spans, singleton(start, front.end)) {
         return Found::Full;
     }
     if front.is_all {
         return Found::End;
     }
-    match read_words::<G>(Role::Variant, cursor, spans, in_order) {
-        Found::Next => read_fields::<G>(Role::Field, cursor, spans, in_order).at_block(cursor),
+    match read_words(growth, Role::Variant, cursor, spans, in_order) {
+        Found::Next => read_fields(growth, Role::Field, cursor, spans, in_order).at_block(cursor),
         found => found,
     }
 }
@@ -59,6 +62,7 @@ pub fn read_transform<G: Growth>(
 // Reads fields, one at least.
 #[inline(always)]
 fn read_fields_alone<G: Growth>(
+    growth: G,
     start: usize,
     cursor: &mut Cursor<'_>,
     spans: &mut Spans,
@@ -66,14 +70,16 @@ fn read_fields_alone<G: Growth>(
 ) -> Found
     requires follows { FollowsSingleton start cursor.old }
     requires alone { is_word (Language languages) (piece_left cursor.old) ≡ false }
-    ensures { IsBodyAt code_t start (reader_at cursor.old spans.old in_order.old)
+    ensures read { IsBodyAt code_t start (reader_at cursor.old spans.old in_order.old)
         (reader_at cursor.new spans.new in_order.new) result }
+    ensures refused { result ≡ Found.Full
+        → IsRefused G.refused spans.old (1 + length (pieces_left cursor.old)) }
 {
     if is_single(*cursor) {
         return Found::Bad;
     }
-    if !put::<G>(spans, singleton(start, cursor.at - 1)) {
+    if !put(growth, spans, singleton(start, cursor.at - 1)) {
         return Found::Full;
     }
-    read_fields::<G>(Role::Field, cursor, spans, in_order).at_block(cursor)
+    read_fields(growth, Role::Field, cursor, spans, in_order).at_block(cursor)
 }

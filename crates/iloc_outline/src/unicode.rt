@@ -1,6 +1,8 @@
 //! Reads what follows the singleton `u`.
+ghost use Rattle.std.specs.Prelude.{◌≡◌, ◌+◌, length};
 ghost use Rattle.iloc_spec_grammar.specs.Syntax.{code_u};
-ghost use Rattle.iloc_outline.specs.Reading.{FollowsSingleton, IsBodyAt, reader_at};
+ghost use Rattle.iloc_pieces.specs.Cursor.{pieces_left};
+ghost use Rattle.iloc_outline.specs.Reading.{FollowsSingleton, IsBodyAt, IsRefused, reader_at};
 
 use crate::fields::read_fields;
 use crate::growth::{Growth, put};
@@ -13,14 +15,17 @@ use iloc_spans::spans::Spans;
 /// Reads attributes and keywords, one at least, up to the next block. The singleton begins at the hyphen at `start`.
 #[inline(always)]
 pub fn read_unicode<G: Growth>(
+    growth: G,
     start: usize,
     cursor: &mut Cursor<'_>,
     spans: &mut Spans,
     in_order: &mut bool,
 ) -> Found
     requires follows { FollowsSingleton start cursor.old }
-    ensures { IsBodyAt code_u start (reader_at cursor.old spans.old in_order.old)
+    ensures read { IsBodyAt code_u start (reader_at cursor.old spans.old in_order.old)
         (reader_at cursor.new spans.new in_order.new) result }
+    ensures refused { result ≡ Found.Full
+        → IsRefused G.refused spans.old (1 + length (pieces_left cursor.old)) }
 {
     if is_single(*cursor) {
         return Found::Bad;
@@ -32,11 +37,11 @@ pub fn read_unicode<G: Growth>(
         role: Role::Singleton,
         edited: false,
     };
-    if !put::<G>(spans, singleton) {
+    if !put(growth, spans, singleton) {
         return Found::Full;
     }
-    let found = match read_words::<G>(Role::Attribute, cursor, spans, in_order) {
-        Found::Next => read_fields::<G>(Role::Keyword, cursor, spans, in_order),
+    let found = match read_words(growth, Role::Attribute, cursor, spans, in_order) {
+        Found::Next => read_fields(growth, Role::Keyword, cursor, spans, in_order),
         found => found,
     };
     found.at_block(cursor)

@@ -1,10 +1,10 @@
 //! Reads variants and attributes.
-ghost use Rattle.std.specs.Prelude.{◌≡◌, ◌⊎◌, ◌≤◌, ◌++◌, ℕ, Bool, length};
+ghost use Rattle.std.specs.Prelude.{◌≡◌, ◌≢◌, ◌⊎◌, ◌≤◌, ◌++◌, ℕ, Bool, length};
 ghost use Rattle.iloc_spec_grammar.specs.Syntax.{IsWord, is_word};
-ghost use Rattle.iloc_pieces.specs.Cursor.{IsLater, piece_left};
+ghost use Rattle.iloc_pieces.specs.Cursor.{IsLater, piece_left, pieces_left};
 ghost use Rattle.iloc_outline.specs.Gathering.{Walks};
 ghost use Rattle.iloc_spans.specs.Group.{group_spans};
-ghost use Rattle.iloc_outline.specs.Reading.{AreWordsRead, IsOfWord, role_kind, word_span};
+ghost use Rattle.iloc_outline.specs.Reading.{AreWordsRead, IsOfWord, IsRefused, role_kind, word_span};
 ghost use Rattle.iloc_spans.specs.Spans.{held_spans};
 ghost use Rattle.iloc_spans.specs.declared.spans.Spans.{Spans};
 ghost use Rattle.iloc_pieces.specs.declared.place.Cursor.{Cursor};
@@ -12,6 +12,7 @@ ghost use Rattle.iloc_pieces.specs.declared.place.Cursor.{Cursor};
 use crate::growth::Growth;
 use crate::reading::Found;
 use crate::sorting::put_from;
+use iloc_memory::Memory;
 use iloc_pieces::cursor::{Cursor, advance, is_attribute, is_last, is_variant, word_number};
 use iloc_spans::group::Group;
 use iloc_spans::inserting::Inserted;
@@ -49,6 +50,7 @@ fn span_of(role: Role, cursor: Cursor<'_>) -> Span
 /// twice is refused; of equal attributes the first stays.
 #[inline(always)]
 pub fn read_words<G: Growth>(
+    growth: G,
     role: Role,
     cursor: &mut Cursor<'_>,
     spans: &mut Spans,
@@ -56,21 +58,23 @@ pub fn read_words<G: Growth>(
 ) -> Found
     requires role { IsOfWord role }
     requires later { IsLater cursor.old }
-    ensures { AreWordsRead role cursor.old cursor.new spans.old spans.new in_order.old in_order.new
-        result }
+    ensures read { AreWordsRead role cursor.old cursor.new spans.old spans.new in_order.old
+        in_order.new result }
+    ensures refused { result ≡ Found.Full
+        → IsRefused G.refused spans.old (length (pieces_left cursor.old)) }
 {
     let from = spans.count;
     let mut last = 0;
     'words: while fits(role, *cursor) {
         let span = span_of(role, *cursor);
-        match put_from::<G>(spans, from, &mut last, span, in_order) {
+        match put_from(growth, spans, from, &mut last, span, in_order) {
             Inserted::Put => (),
             Inserted::There => {
                 if role == Role::Variant {
                     return Found::Repeated;
                 }
             }
-            Inserted::Full => return G::read_words(role, cursor, spans, from, in_order),
+            Inserted::Full => return growth.read_words(role, cursor, spans, from, in_order),
         }
         if is_last(*cursor) {
             return Found::End;
@@ -83,7 +87,8 @@ pub fn read_words<G: Growth>(
 /// Reads the rest of them where there is no room in place: all of the group, which began at `from` and of which so many
 /// were read, is put in order by a tree.
 #[inline(never)]
-pub fn read_more_words(
+pub fn read_more_words<M: Memory>(
+    memory: M,
     role: Role,
     cursor: &mut Cursor<'_>,
     spans: &mut Spans,
@@ -94,16 +99,18 @@ pub fn read_more_words(
     requires later { IsLater cursor.old }
     requires from { from ≤ spans.old.count }
     requires many { 64 ≤ length (held_spans spans.old) }
-    ensures { (first : Cursor) (old : Spans) (last : ℕ) (o n : Bool) → old.count ≡ from
+    ensures read { (first : Cursor) (old : Spans) (last : ℕ) (o n : Bool) → old.count ≡ from
         → Walks role first cursor.old (held_spans old) (held_spans spans.old) last o n
         → AreWordsRead role first cursor.new old spans.new o in_order.new result }
+    ensures refused { result ≡ Found.Full
+        → IsRefused M.refused spans.old (length (pieces_left cursor.old)) }
 {
     *in_order = false;
-    let Some(mut group) = spans.take_from(from) else {
+    let Some(mut group) = spans.take_from(memory, from) else {
         return Found::Full;
     };
     'words: while fits(role, *cursor) {
-        match group.put(span_of(role, *cursor)) {
+        match group.put(memory, span_of(role, *cursor)) {
             Inserted::Put => (),
             Inserted::There => {
                 if role == Role::Variant {
@@ -113,19 +120,21 @@ pub fn read_more_words(
             Inserted::Full => return Found::Full,
         }
         if is_last(*cursor) {
-            return put_group(&group, spans, Found::End);
+            return put_group(memory, &group, spans, Found::End);
         }
         advance(cursor);
     }
-    put_group(&group, spans, Found::Next)
+    put_group(memory, &group, spans, Found::Next)
 }
 
 // What was found, once the group is put behind the other spans.
-fn put_group(group: &Group, spans: &mut Spans, found: Found) -> Found
-    ensures { (result ≡ Found.Full) ⊎ (result ≡ found)
+fn put_group<M: Memory>(memory: M, group: &Group, spans: &mut Spans, found: Found) -> Found
+    ensures put { (result ≡ Found.Full) ⊎ (result ≡ found)
         × (held_spans spans.new ≡ held_spans spans.old ++ group_spans group.now) }
+    ensures refused { result ≢ found
+        → IsRefused M.refused spans.old (length (group_spans group.now)) }
 {
-    if group.put_into(spans) {
+    if group.put_into(memory, spans) {
         found
     } else {
         Found::Full

@@ -32,7 +32,7 @@ fn reply_each<A: InMode>(alloc: Global, answers: &A, text: &[u8]) -> Result<Repl
     ensures { IfOk result (λ replies. held replies ≡ output languages A.mode text.now) }
 {
     let mut pending = Vec::new(alloc);
-    let mut spans = Spans::growing(alloc);
+    let mut spans = Spans::new();
     let mut replies = ReplyBlock::with_room(alloc, text.len().saturating_add(MORE))?;
     lines::feed(answers, &mut pending, text, &mut spans, &mut replies)?;
     lines::finish(answers, &mut pending, &mut spans, &mut replies)?;

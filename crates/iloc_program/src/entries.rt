@@ -33,7 +33,7 @@ impl<A> Listed<A> {
         Listed {
             alloc,
             answers,
-            spans: Spans::growing(alloc),
+            spans: Spans::new(),
         }
     }
 }

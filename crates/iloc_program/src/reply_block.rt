@@ -14,6 +14,7 @@ const FIRST_ROOM: usize = 131_072;
 /// stored as sixteen bytes at once, whatever its length.
 #[derive(Drop)]
 pub struct ReplyBlock {
+    alloc: Global,
     room: Vec<u8>,
     len: usize,
     ghost within: { len ≤ vec_len room },
@@ -32,6 +33,7 @@ impl ReplyBlock {
         ensures { held result ≡ [] }
     {
         ReplyBlock {
+            alloc,
             room: Vec::new(alloc),
             len: 0,
         }
@@ -159,7 +161,7 @@ impl ReplyBlock {
         self.make_room(text.bytes.len() + 1)?;
         let start = self.len;
         let to = &mut self.room.as_mut_slice()[start..];
-        let written = write_normal(mode, lead, text, spans, to);
+        let written = write_normal(self.alloc, mode, lead, text, spans, to);
         if let Written::Normal(count) = written {
             self.len = start + count;
             self.put(b"\n", 1);

@@ -1,6 +1,6 @@
 -- A span is put in a tree of spans in order.
 use Rattle.std.proofs.Common.{◌≡◌, ℕ, List, [], ◌∷◌, ◌++◌, map, refl, sym, ap, ◌∙◌, Some, None, true, false}
-use Rattle.std.proofs.Common.{true≢false, cond, drop, slice_index}
+use Rattle.std.proofs.Common.{true≢false, cond, drop, slice_index, length, ◌+◌, ◌≤◌, arith}
 use Rattle.std.specs.declared.option.Option.{Option}
 use Rattle.std.specs.Prelude.{is_some}
 use Rattle.std.specs.BTreeMap.{insert_entry, is_at}
@@ -32,6 +32,19 @@ module _ {X : Type 0} where
       at Less = refl
       at Equal = refl
       at Greater = refl
+
+  -- there is one more at most
+  pub inserted_few : (k : ℕ) (v : X) (es : List (ℕ × X))
+      → length (insert_entry nat_cmp es k v) ≤ length es + 1
+  inserted_few k v [] = omega arith
+  inserted_few k v (e ∷ es) = at (nat_cmp k e.0) (inserted_few k v es)
+    where
+      at : (o : Ordering) → length (insert_entry nat_cmp es k v) ≤ length es + 1
+          → length (match_ordering o ((k, v) ∷ e ∷ es) ((e.0, v) ∷ es) (e ∷ insert_entry nat_cmp es k v))
+          ≤ length (e ∷ es) + 1
+      at Less h = omega arith
+      at Equal h = omega arith
+      at Greater h = omega arith
 
   -- an entry is looked up as it is found
   looked_up : (k : ℕ) (es : List (ℕ × X)) → lookup (is_at (nat_cmp k)) es ≡ find nat_cmp k es

@@ -5,6 +5,8 @@ use Rattle.iloc_spec_grammar.specs.Syntax.{IsAmong}
 use Rattle.iloc_spec_grammar.specs.Meaning.{map_of}
 use Rattle.iloc_spans.specs.declared.inserting.Inserted.{Inserted}
 use Rattle.iloc_spans.specs.declared.inserting.Inserted.TheVariants.{Put, There, Full}
+use Rattle.iloc_spans.specs.declared.span.Role.{Role}
+use Rattle.iloc_spans.specs.declared.span.Role.TheVariants.{Variant, Attribute}
 use Rattle.iloc_spans.specs.declared.span.Span.{Span}
 
 -- what has a number, in the order of the numbers; of equal numbers the first stays
@@ -27,6 +29,12 @@ IsInserted from s old new There = (before ss : List Span) → length before ≡ 
     → (new ≡ before ++ spans_in_order (ss ++ (s ∷ [])))
     × IsAmong nat_cmp s.word (map (λ x. x.word) ss)
 IsInserted from s old new Full = new ≡ old
+
+-- few come of this role, so that each place is tried; words, which may be many, are put into a group
+abbrev pub IsTried : Role → Type 0
+IsTried Variant = ¬ ⊤
+IsTried Attribute = ¬ ⊤
+IsTried _ = ⊤
 
 -- the span was put behind all others
 abbrev pub IsBehind : Span → List Span → List Span → Inserted → Type 0

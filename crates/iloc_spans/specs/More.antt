@@ -1,4 +1,4 @@
--- Spans in memory of the allocator.
+-- Spans in memory that grows.
 use Rattle.std.specs.Prelude.{List, [], Option, Some, None}
 use Rattle.iloc_spans.specs.declared.more.More.{More}
 use Rattle.iloc_spans.specs.declared.span.Span.{Span}

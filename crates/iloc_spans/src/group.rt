@@ -1,12 +1,13 @@
 //! Many spans in order. Words that come out of order are put so where the room in place is full: n of them take n log n
 //! steps.
-ghost use Rattle.std.specs.Prelude.{◌≡◌, ℕ, [], ◌++◌, map, true};
+ghost use Rattle.std.specs.Prelude.{◌≡◌, ◌+◌, ◌≤◌, ℕ, [], ◌++◌, length, map, true, false};
+ghost use Rattle.iloc_memory.specs.Refusals.{RefusedWithin};
 ghost use Rattle.iloc_spans.specs.declared.span.Span.{Span};
 
 use crate::inserting::Inserted;
 use crate::span::Span;
 use crate::spans::Spans;
-use std::alloc::Global;
+use iloc_memory::Memory;
 use std::collections::BTreeMap;
 
 /// Spans in the order of their numbers, of which the first of equals counts.
@@ -22,34 +23,38 @@ impl Group {
     ghost use Rattle.iloc_spans.specs.Spans.{held_spans};
 
     /// None. It allocates nothing.
-    pub fn new(alloc: Global) -> Group
+    pub fn new<M: Memory>(memory: M) -> Group
         ensures { group_spans result ≡ [] }
     {
         Group {
-            tree: BTreeMap::new(alloc),
+            tree: memory.empty_tree(),
         }
     }
 
     /// Puts a span where it belongs, unless one of its number is there. `Full` says that memory was refused.
-    pub fn put(&mut self, span: Span) -> Inserted
-        ensures { IsGrouped span (group_spans self.old) (group_spans self.new) result }
+    pub fn put<M: Memory>(&mut self, memory: M, span: Span) -> Inserted
+        ensures put { IsGrouped span (group_spans self.old) (group_spans self.new) result }
+        ensures few { length (group_spans self.new) ≤ length (group_spans self.old) + 1 }
+        ensures refused { result ≡ Inserted.Full → RefusedWithin M.refused 1 }
     {
         if self.tree.contains_key(&span.word) {
             return Inserted::There;
         }
-        match self.tree.insert(span.word, span) {
+        match memory.insert_in_tree(&mut self.tree, span.word, span) {
             Ok(_) => Inserted::Put,
             Err(_) => Inserted::Full,
         }
     }
 
-    /// Puts them all behind other spans. `false` if memory was refused, or there is no room for them.
-    pub fn put_into(&self, spans: &mut Spans) -> bool
-        ensures { result ≡ true → held_spans spans.new
+    /// Puts them all behind other spans. `false` if memory was refused.
+    pub fn put_into<M: Memory>(&self, memory: M, spans: &mut Spans) -> bool
+        ensures put { result ≡ true → held_spans spans.new
             ≡ held_spans spans.old ++ group_spans self.now }
+        ensures refused { result ≡ false → RefusedWithin M.refused
+            (length (held_spans spans.old) + length (group_spans self.now)) }
     {
         for span in self.tree.values() {
-            if !spans.put_anywhere(*span) {
+            if !spans.put_anywhere(memory, *span) {
                 return false;
             }
         }

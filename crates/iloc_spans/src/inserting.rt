@@ -1,10 +1,12 @@
 //! A span comes to stand among others in order.
 ghost use Rattle.std.specs.Prelude.{◌≡◌, ◌≢◌, ◌+◌, ◌-◌, ◌<◌, ◌≤◌, ◌∷◌, ◌++◌, length, map, slice_index, take, drop};
+ghost use Rattle.iloc_memory.specs.Refusals.{RefusedWithin};
 ghost use Rattle.iloc_spans.specs.Spans.{held_spans};
-ghost use Rattle.iloc_spans.specs.Inserting.{IsInserted};
+ghost use Rattle.iloc_spans.specs.Inserting.{IsInserted, IsTried};
 
 use crate::span::{Role, Span};
 use crate::spans::Spans;
+use iloc_memory::Memory;
 
 /// What became of a span.
 #[derive(Clone, Copy)]
@@ -38,16 +40,18 @@ pub fn insert_in_place(spans: &mut Spans, from: usize, span: Span) -> Inserted
 
 /// Puts it so where the room in place is full. There may be too many words to try each place: a group takes them.
 #[inline(never)]
-pub fn insert_more(spans: &mut Spans, from: usize, span: Span) -> Inserted
+pub fn insert_more<M: Memory>(memory: M, spans: &mut Spans, from: usize, span: Span) -> Inserted
     requires from { from ≤ spans.old.count }
     requires many { 64 ≤ spans.old.count }
-    ensures { IsInserted from span (held_spans spans.old) (held_spans spans.new) result }
+    ensures inserted { IsInserted from span (held_spans spans.old) (held_spans spans.new) result }
+    ensures refused { result ≡ Inserted.Full → IsTried span.role
+        → RefusedWithin M.refused (length (held_spans spans.old) + 1) }
 {
     match span.role {
         Role::Variant | Role::Attribute => return Inserted::Full,
         Role::Singleton | Role::Keyword | Role::Field => (),
     }
-    if !spans.move_out() {
+    if !spans.move_out(memory) {
         return Inserted::Full;
     }
     let held = spans.as_slice();
@@ -55,7 +59,7 @@ pub fn insert_more(spans: &mut Spans, from: usize, span: Span) -> Inserted
     if at < held.len() && held[at].word == span.word {
         return Inserted::There;
     }
-    if spans.insert(at, span) {
+    if spans.insert(memory, at, span) {
         Inserted::Put
     } else {
         Inserted::Full

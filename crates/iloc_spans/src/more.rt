@@ -1,14 +1,13 @@
 //! Room for spans that grows, if there is any.
-ghost use Rattle.std.specs.Prelude.{◌≡◌, ◌-◌, ◌≤◌, ◌∷◌, ◌++◌, drop, length, take, true, false, vec_len};
+ghost use Rattle.std.specs.Prelude.{◌≡◌, ◌+◌, ◌-◌, ◌≤◌, ◌∷◌, ◌++◌, drop, length, take, true, false};
+ghost use Rattle.iloc_memory.specs.Refusals.{RefusedWithin};
 
 use crate::span::Span;
-use std::alloc::Global;
+use iloc_memory::{Memory, extend_from_slice, insert_at};
 
-/// Spans in memory of the allocator.
+/// Spans in memory that grows.
 #[derive(Drop)]
 pub struct More {
-    /// The allocator.
-    pub alloc: Global,
     /// The spans.
     pub list: Vec<Span>,
 }
@@ -26,40 +25,48 @@ pub(crate) fn slice_of(more: &Option<More>) -> &[Span]
     }
 }
 
-/// Puts these spans there, and no others. `false` if there is no such room, or memory is refused.
+/// Puts these spans there, and no others. `false` if memory is refused.
 #[inline(never)]
-pub(crate) fn fill(more: &mut Option<More>, spans: &[Span]) -> bool
-    ensures { result ≡ true → more_spans more.new ≡ spans.now }
+pub(crate) fn fill<M: Memory>(memory: M, more: &mut Option<More>, spans: &[Span]) -> bool
+    ensures filled { result ≡ true → more_spans more.new ≡ spans.now }
+    ensures refused { result ≡ false → RefusedWithin M.refused (length spans.now) }
 {
-    let Some(more) = more else {
-        return false;
+    let mut list = match more.take() {
+        Some(more) => more.list,
+        None => memory.empty(),
     };
-    more.list.clear();
-    more.list.extend_from_slice(spans).is_ok()
+    list.clear();
+    let is_filled = extend_from_slice(memory, &mut list, spans).is_ok();
+    *more = Some(More { list });
+    is_filled
 }
 
-/// Puts a span at a place. `false` if there is no such room, or memory is refused.
+/// Puts a span at a place, where some are. `false` if memory is refused.
 #[inline(never)]
-pub(crate) fn insert(more: &mut Option<More>, at: usize, span: Span) -> bool
-    requires { at ≤ length (more_spans more.old) }
+pub(crate) fn insert<M: Memory>(memory: M, more: &mut Option<More>, at: usize, span: Span) -> bool
+    requires within { at ≤ length (more_spans more.old) }
+    requires some { 1 ≤ length (more_spans more.old) }
     ensures put { result ≡ true → more_spans more.new
         ≡ take at (more_spans more.old) ++ span ∷ drop at (more_spans more.old) }
     ensures full { result ≡ false → more_spans more.new ≡ more_spans more.old }
+    ensures refused { result ≡ false
+        → RefusedWithin M.refused (length (more_spans more.old) + 1) }
 {
     match more {
-        Some(more) => insert_in(&mut more.list, at, span),
-        None => false,
+        Some(more) => insert_in(memory, &mut more.list, at, span),
+        None => unreachable!(),
     }
 }
 
 // Puts it at a place of a list.
-fn insert_in(list: &mut Vec<Span>, at: usize, span: Span) -> bool
-    requires { at ≤ vec_len list.old }
+fn insert_in<M: Memory>(memory: M, list: &mut Vec<Span>, at: usize, span: Span) -> bool
+    requires { at ≤ length list.old.items }
     ensures put { result ≡ true → list.new.items
         ≡ take at list.old.items ++ span ∷ drop at list.old.items }
     ensures full { result ≡ false → list.new.items ≡ list.old.items }
+    ensures refused { result ≡ false → RefusedWithin M.refused (length list.old.items + 1) }
 {
-    list.insert(at, span).is_ok()
+    insert_at(memory, list, at, span).is_ok()
 }
 
 /// Moves the spans from `from` on before those from `at` on.

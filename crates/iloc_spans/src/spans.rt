@@ -1,12 +1,13 @@
 //! The spans of a text, as they are read.
-ghost use Rattle.std.specs.Prelude.{◌≡◌, ◌≢◌, ◌+◌, ◌-◌, ◌<◌, ◌≤◌, [], ◌∷◌, ◌++◌, IfSome, drop, length, take, true, false};
+ghost use Rattle.std.specs.Prelude.{◌≡◌, ◌≢◌, ◌+◌, ◌-◌, ◌<◌, ◌≤◌, [], ◌∷◌, ◌++◌, IfSome, None, drop, length, take, true, false};
+ghost use Rattle.iloc_memory.specs.Refusals.{RefusedWithin};
 ghost use Rattle.iloc_spans.specs.More.{more_spans};
 
 use crate::group::Group;
 use crate::inserting::{Inserted, turn_in_place};
 use crate::more::{self, More};
 use crate::span::{NO_SPANS, Span};
-use std::alloc::Global;
+use iloc_memory::Memory;
 
 /// How many spans there is room for in place.
 pub const MOST: usize = 64;
@@ -44,18 +45,6 @@ impl Spans {
             count: 0,
             more: None,
         }
-    }
-
-    /// None, and room that grows. It allocates nothing.
-    pub fn growing(alloc: Global) -> Spans
-        ensures { held_spans result ≡ [] }
-    {
-        let mut spans = Spans::new();
-        spans.more = Some(More {
-            alloc,
-            list: Vec::new(alloc),
-        });
-        spans
     }
 
     /// The spans.
@@ -106,12 +95,14 @@ impl Spans {
         self.count += 1;
     }
 
-    /// Puts a span behind the others, wherever there is room. `false` if memory is refused, or no room grows.
-    pub(crate) fn put_anywhere(&mut self, span: Span) -> bool
-        ensures { result ≡ true → held_spans self.new ≡ held_spans self.old ++ span ∷ [] }
+    /// Puts a span behind the others, wherever there is room. `false` if memory is refused.
+    pub(crate) fn put_anywhere<M: Memory>(&mut self, memory: M, span: Span) -> bool
+        ensures put { result ≡ true → held_spans self.new ≡ held_spans self.old ++ span ∷ [] }
+        ensures refused { result ≡ false
+            → RefusedWithin M.refused (length (held_spans self.old) + 1) }
     {
         if self.count >= MOST {
-            return self.put_more(span);
+            return self.put_more(memory, span);
         }
         self.put_in_place(span);
         true
@@ -134,20 +125,18 @@ impl Spans {
         turn_in_place(&mut self.list, at, from, self.count);
     }
 
-    /// Takes the spans from `from` on into a group. `None` if memory is refused, or if there is no room that grows.
-    pub fn take_from(&mut self, from: usize) -> Option<Group>
+    /// Takes the spans from `from` on into a group. `None` if memory is refused.
+    pub fn take_from<M: Memory>(&mut self, memory: M, from: usize) -> Option<Group>
         requires { from ≤ self.old.count }
-        ensures { IfSome result (λ g.
+        ensures taken { IfSome result (λ g.
             (group_spans g ≡ spans_in_order (drop from (held_spans self.old)))
             × (held_spans self.new ≡ take from (held_spans self.old))) }
+        ensures refused { result ≡ None → RefusedWithin M.refused 1 }
     {
-        let Some(more) = &self.more else {
-            return None;
-        };
-        let mut group = Group::new(more.alloc);
+        let mut group = Group::new(memory);
         let held = self.as_slice();
         for i in from..held.len() {
-            if let Inserted::Full = group.put(held[i]) {
+            if let Inserted::Full = group.put(memory, held[i]) {
                 return None;
             }
         }
@@ -170,28 +159,31 @@ impl Spans {
         self.count = to;
     }
 
-    /// Puts a span behind the others where the room in place is full. `false` if memory is refused, or no room grows.
+    /// Puts a span behind the others where the room in place is full. `false` if memory is refused.
     #[inline(never)]
-    pub fn put_more(&mut self, span: Span) -> bool
+    pub fn put_more<M: Memory>(&mut self, memory: M, span: Span) -> bool
         requires { 64 ≤ self.old.count }
         ensures put { result ≡ true → held_spans self.new ≡ held_spans self.old ++ span ∷ [] }
         ensures full { result ≡ false → held_spans self.new ≡ held_spans self.old }
+        ensures refused { result ≡ false
+            → RefusedWithin M.refused (length (held_spans self.old) + 1) }
     {
-        self.move_out() && self.insert(self.count, span)
+        self.move_out(memory) && self.insert(memory, self.count, span)
     }
 
-    /// Moves the spans to the room that grows, once the room in place is full. `false` if there is no such room, or memory
-    /// is refused.
-    pub(crate) fn move_out(&mut self) -> bool
+    /// Moves the spans to the room that grows, once the room in place is full. `false` if memory is refused.
+    pub(crate) fn move_out<M: Memory>(&mut self, memory: M) -> bool
         requires { 64 ≤ self.old.count }
         ensures held { held_spans self.new ≡ held_spans self.old }
         ensures count { self.new.count ≡ self.old.count }
         ensures moved { result ≡ true → self.new.room ≡ 0 }
+        ensures refused { result ≡ false
+            → RefusedWithin M.refused (length (held_spans self.old)) }
     {
         if self.room == 0 {
             return true;
         }
-        if !more::fill(&mut self.more, &self.list) {
+        if !more::fill(memory, &mut self.more, &self.list) {
             return false;
         }
         self.room = 0;
@@ -199,14 +191,16 @@ impl Spans {
     }
 
     /// Puts a span at a place in the room that grows. `false` if memory is refused.
-    pub(crate) fn insert(&mut self, at: usize, span: Span) -> bool
+    pub(crate) fn insert<M: Memory>(&mut self, memory: M, at: usize, span: Span) -> bool
         requires moved { self.old.room ≡ 0 }
         requires within { at ≤ self.old.count }
         ensures put { result ≡ true → held_spans self.new
             ≡ take at (held_spans self.old) ++ span ∷ drop at (held_spans self.old) }
         ensures full { result ≡ false → held_spans self.new ≡ held_spans self.old }
+        ensures refused { result ≡ false
+            → RefusedWithin M.refused (length (held_spans self.old) + 1) }
     {
-        if !more::insert(&mut self.more, at, span) {
+        if !more::insert(memory, &mut self.more, at, span) {
             return false;
         }
         self.count += 1;

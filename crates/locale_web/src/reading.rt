@@ -52,7 +52,7 @@ fn read_identifier(window: &[u8], len: usize, spans: &mut Spans) -> ReadText
     if !begins_with_language(window, len) {
         return ReadText::Refused(ParseError::InvalidLanguage);
     }
-    match outline_identifier::<InPlace>(window, len, spans) {
+    match outline_identifier(InPlace, window, len, spans) {
         Outlined::Normal(outline) => ReadText::Outlined(outline),
         Outlined::Refused(error) => ReadText::Refused(error),
         Outlined::Full => ReadText::Beyond,
@@ -70,7 +70,7 @@ fn read_locale(window: &[u8], len: usize, spans: &mut Spans) -> ReadText
     if !begins_with_language(window, len) {
         return ReadText::Refused(ParseError::InvalidLanguage);
     }
-    match outline_locale::<InPlace>(window, len, spans) {
+    match outline_locale(InPlace, window, len, spans) {
         Outlined::Normal(outline) => ReadText::Outlined(outline),
         Outlined::Refused(error) => ReadText::Refused(error),
         Outlined::Full => ReadText::Beyond,

@@ -199,7 +199,7 @@ fn part<R: Read, W: Write>(
         mode: reading.mode,
         is_json,
         room: Vec::new(alloc),
-        spans: Spans::growing(alloc),
+        spans: Spans::new(),
         normal: ReplyBlock::new(alloc),
         written: ReplyBlock::new(alloc),
         tally,

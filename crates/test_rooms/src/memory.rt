@@ -8,6 +8,7 @@ use iloc_shortvec::{ShortBoxSlice, ShortWords};
 use iloc_subtags::{ParseError, Subtag, Variant};
 use iloc_word_list::{Value, Variants};
 use std::alloc::{AllocError, Global};
+use std::collections::BTreeMap;
 use std::test::Fail;
 
 /// Memory that grants room for at most so many items.
@@ -36,6 +37,22 @@ impl Memory for UpTo {
             return Err(AllocError);
         }
         self.heap.reserve(list, additional)
+    }
+
+    fn empty_tree<K: Ord, V>(self) -> BTreeMap<K, V> {
+        BTreeMap::new(self.heap)
+    }
+
+    fn insert_in_tree<K: Ord + Drop, V: Drop>(
+        self,
+        tree: &mut BTreeMap<K, V>,
+        key: K,
+        value: V,
+    ) -> Result<Option<V>, AllocError> {
+        if self.most == 0 {
+            return Err(AllocError);
+        }
+        self.heap.insert_in_tree(tree, key, value)
     }
 }
 
@@ -121,6 +138,19 @@ fn sets_and_values_ask_for_room_for_their_subtags(rt: HostRuntime) -> Result<(),
         Err(ParseError::OutOfMemory)
     );
     assert_eq!(rt; read(five, "aaa-bbb-ccc-ddd-eee"), Ok(10));
+    Ok(())
+}
+
+#[test]
+fn trees_ask_for_room_for_a_pair(rt: HostRuntime) -> Result<(), Fail> {
+    let heap = rt.alloc();
+    let mut tree = up_to(0, heap).empty_tree();
+    assert_eq!(rt;
+        up_to(0, heap).insert_in_tree(&mut tree, 2u8, 3u8),
+        Err(AllocError)
+    );
+    assert_eq!(rt; up_to(1, heap).insert_in_tree(&mut tree, 2, 3), Ok(None));
+    assert_eq!(rt; up_to(1, heap).insert_in_tree(&mut tree, 2, 4), Ok(Some(3)));
     Ok(())
 }
 

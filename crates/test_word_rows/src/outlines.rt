@@ -46,7 +46,7 @@ fn langid(window: &[u8], len: usize, out: &mut String)
     requires begins { BeginsWithLanguage (take len window.now) }
 {
     let mut spans = Spans::new();
-    match outline_identifier::<InPlace>(window, len, &mut spans) {
+    match outline_identifier(InPlace, window, len, &mut spans) {
         Outlined::Normal(outline) => normal(window, len, &outline, &spans, out),
         Outlined::Refused(error) => refuse(out, error),
         Outlined::Full => say(out, "full"),
@@ -60,7 +60,7 @@ fn locale(window: &[u8], len: usize, out: &mut String)
     requires begins { BeginsWithLanguage (take len window.now) }
 {
     let mut spans = Spans::new();
-    match outline_locale::<InPlace>(window, len, &mut spans) {
+    match outline_locale(InPlace, window, len, &mut spans) {
         Outlined::Normal(outline) => normal(window, len, &outline, &spans, out),
         Outlined::Refused(error) => refuse(out, error),
         Outlined::Full => say(out, "full"),

@@ -15,8 +15,8 @@ pub read_data-requires-clause-begins : goal.read_data-requires-clause-begins
 read_data-requires-clause-begins c =
     subst (λ (m : ℕ). BeginsWithLanguage (take m c.args.text.bytes.now)) (sym c.len.ensures) c.requires.begins
 
-pub returns-in-Head : goal.returns-in-Head
-returns-in-Head c =
+pub returns-in-Head-clause-written : goal.returns-in-Head-clause-written
+returns-in-Head-clause-written c =
     let w = c.args.text.bytes.now in
     let h = subst (λ (m : ℕ). IsDataRead w m (datas.Head c.in-Head.head)) c.len.ensures c.in-Head.ensures in
     let t = text_in c.args.text in
@@ -43,8 +43,8 @@ write_named-requires-clause-value c =
     c.in-Named.ensures in
     (h.0, h.2)
 
-pub returns-in-Named : goal.returns-in-Named
-returns-in-Named c =
+pub returns-in-Named-clause-written : goal.returns-in-Named-clause-written
+returns-in-Named-clause-written c =
     let w = c.args.text.bytes.now in
     let h = subst (λ (m : ℕ). IsDataRead w m (datas.Named c.in-Named.head c.in-Named.value)) c.len.ensures
     c.in-Named.ensures in
@@ -59,7 +59,12 @@ returns-in-Named c =
       (h.0, data_meant t h.0 h.1, c.write_named.ensures.put h.0 h.2),
     )
 
-pub returns-in-Refused : goal.returns-in-Refused
-returns-in-Refused c = c.refused.ensures Data _ _
+pub returns-in-Refused-clause-written : goal.returns-in-Refused-clause-written
+returns-in-Refused-clause-written c = c.refused.ensures.written Data _ _
+    (subst (λ (m : ℕ). HasRefusal Data (take m c.args.text.bytes.now) c.in-Refused.error) c.len.ensures
+    c.in-Refused.ensures)
+
+pub returns-in-Refused-clause-some : goal.returns-in-Refused-clause-some
+returns-in-Refused-clause-some c = c.refused.ensures.some Data _
     (subst (λ (m : ℕ). HasRefusal Data (take m c.args.text.bytes.now) c.in-Refused.error) c.len.ensures
     c.in-Refused.ensures)

@@ -16,15 +16,15 @@ outline_identifier-requires-clause-begins g c =
 pub copy_outline-requires-clause-gives : goal.copy_outline-requires-clause-gives
 copy_outline-requires-clause-gives g c =
     let t = take c.len-len.result c.args.text.bytes.now in
-    let (i, m, s) = c.in-Normal.ensures in
+    let (i, m, s) = c.in-Normal.ensures.outlined in
     let long : length (identifier_text i) ≡ length t = length-identifier_means languages t i m in
     record { normal = identifier_text i; gives = s; few = omega arith }
 
-pub returns-in-Normal : goal.returns-in-Normal
-returns-in-Normal g c =
+pub returns-in-Normal-clause-written : goal.returns-in-Normal-clause-written
+returns-in-Normal-clause-written g c =
     let w = c.args.text.bytes.now in
     let len = c.len-len.result in
-    let (i, m, s) = c.in-Normal.ensures in
+    let (i, m, s) = c.in-Normal.ensures.outlined in
     let whole : length (take len w) ≡ len = length-take-le len w (omega (arith, c.len-len.ensures)) in
     subst (λ (k : ℕ). IsNormalWritten Langid (take k w) c.copy_outline.new.to (Normal c.copy_outline.result))
     c.len-len.ensures (
@@ -33,7 +33,12 @@ returns-in-Normal g c =
       (i, m, c.copy_outline.ensures.text (identifier_text i) s),
     )
 
-pub returns-in-Refused : goal.returns-in-Refused
-returns-in-Refused g c = c.refused.ensures Langid _ _
+pub returns-in-Refused-clause-written : goal.returns-in-Refused-clause-written
+returns-in-Refused-clause-written g c = c.refused.ensures.written Langid _ _
     (subst (λ (k : ℕ). HasRefusal Langid (take k c.args.text.bytes.now) c.in-Refused.error) c.len-len.ensures
-    c.in-Refused.ensures)
+    c.in-Refused.ensures.outlined)
+
+pub returns-in-Refused-clause-refused : goal.returns-in-Refused-clause-refused
+returns-in-Refused-clause-refused g c = λ e. absurd (c.refused.ensures.some Langid _
+    (subst (λ (k : ℕ). HasRefusal Langid (take k c.args.text.bytes.now) c.in-Refused.error) c.len-len.ensures
+    c.in-Refused.ensures.outlined) e)

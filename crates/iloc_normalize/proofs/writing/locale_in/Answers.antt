@@ -15,18 +15,18 @@ outline_locale-requires-clause-begins g c =
 
 pub copy_outline-requires-clause-gives : goal.copy_outline-requires-clause-gives
 copy_outline-requires-clause-gives g c =
-    let (M, m, s) = c.in-Normal.ensures in
+    let (M, m, s) = c.in-Normal.ensures.outlined in
     record {
       normal = text M;
       gives = s;
       few = shortest languages (take c.len-len.result c.args.text.bytes.now) M m;
     }
 
-pub returns-in-Normal : goal.returns-in-Normal
-returns-in-Normal g c =
+pub returns-in-Normal-clause-written : goal.returns-in-Normal-clause-written
+returns-in-Normal-clause-written g c =
     let w = c.args.text.bytes.now in
     let len = c.len-len.result in
-    let (M, m, s) = c.in-Normal.ensures in
+    let (M, m, s) = c.in-Normal.ensures.outlined in
     let whole : length (take len w) ≡ len = length-take-le len w (omega (arith, c.len-len.ensures)) in
     subst (λ (k : ℕ). IsNormalWritten Locale (take k w) c.copy_outline.new.to (Normal c.copy_outline.result))
     c.len-len.ensures (
@@ -35,7 +35,12 @@ returns-in-Normal g c =
       (M, m, c.copy_outline.ensures.text (text M) s),
     )
 
-pub returns-in-Refused : goal.returns-in-Refused
-returns-in-Refused g c = c.refused.ensures Locale _ _
+pub returns-in-Refused-clause-written : goal.returns-in-Refused-clause-written
+returns-in-Refused-clause-written g c = c.refused.ensures.written Locale _ _
     (subst (λ (k : ℕ). HasRefusal Locale (take k c.args.text.bytes.now) c.in-Refused.error) c.len-len.ensures
-    c.in-Refused.ensures)
+    c.in-Refused.ensures.outlined)
+
+pub returns-in-Refused-clause-refused : goal.returns-in-Refused-clause-refused
+returns-in-Refused-clause-refused g c = λ e. absurd (c.refused.ensures.some Locale _
+    (subst (λ (k : ℕ). HasRefusal Locale (take k c.args.text.bytes.now) c.in-Refused.error) c.len-len.ensures
+    c.in-Refused.ensures.outlined) e)

@@ -9,6 +9,7 @@ use Rattle.iloc_outline.specs.declared.reading.Found.TheVariants.{Bad, End, Full
 use Rattle.iloc_spans.specs.declared.spans.Spans.{Spans}
 use Rattle.iloc_outline.proofs.BlocksLemmas.{IsDone, IsRead, all_done}
 use Rattle.iloc_pieces.proofs.CursorLemmas.{last_piece, single_short}
+use Rattle.iloc_outline.proofs.RefusalLemmas.{refused_before}
 use Rattle.iloc_outline.proofs.SingletonSteps as at
 use Rattle.iloc_outline.proofs.blocks.read_blocks.Given.{Over}
 use Rattle.iloc_outline.proofs.blocks.read_blocks.Goals as goal
@@ -26,12 +27,12 @@ singletons-init g c =
     at.starts_at c.args.cursor.now c.args.spans.now c.args.in_order.now
     c.requires.later c.requires.single
 
-pub returns-then-not-is_alphanumeric : goal.returns-then-not-is_alphanumeric
-returns-then-not-is_alphanumeric g c =
+pub returns-then-not-is_alphanumeric-clause-read : goal.returns-then-not-is_alphanumeric-clause-read
+returns-then-not-is_alphanumeric-clause-read g c =
     at.refuses_letter c.singletons.invariant (sym c.is_alphanumeric.ensures ∙ c.if-not-is_alphanumeric.true)
 
-pub returns-then-has_block : goal.returns-then-has_block
-returns-then-has_block g c =
+pub returns-then-has_block-clause-read : goal.returns-then-has_block-clause-read
+returns-then-has_block-clause-read g c =
     let h = c.singletons.invariant in
     let letter : is_ascii_alphanumeric (at.byte_at h) ≡ true = sym c.is_alphanumeric.ensures
     ∙ c.if-not-is_alphanumeric.false in
@@ -40,8 +41,8 @@ returns-then-has_block g c =
     (c.rank_of-rank.ensures ∙ ap rank c.singleton-byte.ensures)
     c.has_block.result c.has_block.ensures ∙ c.if-has_block.true)
 
-pub returns-then-is_last : goal.returns-then-is_last
-returns-then-is_last g c =
+pub returns-then-is_last-clause-read : goal.returns-then-is_last-clause-read
+returns-then-is_last-clause-read g c =
     let h = c.singletons.invariant in
     let letter : is_ascii_alphanumeric (at.byte_at h) ≡ true = sym c.is_alphanumeric.ensures
     ∙ c.if-not-is_alphanumeric.false in
@@ -69,7 +70,7 @@ IsReadAs g c r = IsBlockRead (at.byte_at c.singletons.invariant) c.advance.new.c
     c.read_body-found.new.spans c.if-rank-last.in_order c.read_body-found.new.in_order r
 
 read_as : (g : Over) (c : After-read_body-found g) (r : Found) → c.read_body-found.result ≡ r → IsReadAs g c r
-read_as g c r e = rw e at (c.read_body-found.ensures (at.byte_at c.singletons.invariant)
+read_as g c r e = rw e at (c.read_body-found.ensures.read (at.byte_at c.singletons.invariant)
     (sym c.singleton-byte.ensures)
     (at.spanned_at c.singletons.invariant c.advance.ensures))
 
@@ -93,23 +94,30 @@ passed g c =
     ] in
     record { letter = letter; fresh = fresh; next = c.advance.ensures }
 
-pub returns-in-Bad : goal.returns-in-Bad
-returns-in-Bad g c =
-    let p = (goal.at.returns-in-Bad g c).After-read_body-found in
+pub returns-in-Bad-clause-read : goal.returns-in-Bad-clause-read
+returns-in-Bad-clause-read g c =
+    let p = (goal.at.returns-in-Bad-clause-read g c).After-read_body-found in
     at.refuses_bad c.singletons.invariant (passed g p) c.read_body-found.new.cursor
     (read_as g p Bad c.in-Bad.is)
 
-pub returns-in-Repeated : goal.returns-in-Repeated
-returns-in-Repeated g c =
-    let p = (goal.at.returns-in-Repeated g c).After-read_body-found in
+pub returns-in-Repeated-clause-read : goal.returns-in-Repeated-clause-read
+returns-in-Repeated-clause-read g c =
+    let p = (goal.at.returns-in-Repeated-clause-read g c).After-read_body-found in
     at.refuses_repeated c.singletons.invariant (passed g p) c.read_body-found.new.cursor
     (read_as g p Repeated c.in-Repeated.is)
 
-pub returns-in-Full : goal.returns-in-Full
-returns-in-Full g c =
-    let p = (goal.at.returns-in-Full g c).After-read_body-found in
+pub returns-in-Full-clause-read : goal.returns-in-Full-clause-read
+returns-in-Full-clause-read g c =
+    let p = (goal.at.returns-in-Full-clause-read g c).After-read_body-found in
     at.too_many c.singletons.invariant (passed g p) c.read_body-found.new.cursor
     (read_as g p Full c.in-Full.is)
+
+pub returns-in-Full-clause-refused : goal.returns-in-Full-clause-refused
+returns-in-Full-clause-refused g c = λ _.
+    let p = (goal.at.returns-in-Full-clause-refused g c).After-read_body-found in
+    refused_before _ c.args.spans.now c.singletons.spans _ _
+    (at.passed_few c.singletons.invariant (passed g p))
+    (c.read_body-found.ensures.refused c.in-Full.is)
 
 pub place_block-requires : goal.place_block-requires
 place_block-requires g c =
@@ -166,12 +174,12 @@ singletons-preserved g c =
     (put g (goal.at.singletons-preserved g c).Joined-rank-last-2 (passed g p) (rank_is g p) (pieces_left next)
     (at.goes_on h (passed g p) next r))
 
-pub returns-in-End-found : goal.returns-in-End-found
-returns-in-End-found g c =
-    let p = (goal.at.returns-in-End-found g c).After-read_body-found in
+pub returns-in-End-found-clause-read : goal.returns-in-End-found-clause-read
+returns-in-End-found-clause-read g c =
+    let p = (goal.at.returns-in-End-found-clause-read g c).After-read_body-found in
     all_done c.args.cursor.now c.args.spans.now c.args.in_order.now c.if-rank-last-2.last
     c.if-rank-last-2.spans
     c.read_body-found.new.in_order
-    (put g (goal.at.returns-in-End-found g c).Joined-rank-last-2 (passed g p) (rank_is g p) []
+    (put g (goal.at.returns-in-End-found-clause-read g c).Joined-rank-last-2 (passed g p) (rank_is g p) []
     (at.ends_here c.singletons.invariant (passed g p) c.read_body-found.new.cursor
     (read_as g p End c.in-End-found.is)))

@@ -13,13 +13,16 @@ use Rattle.iloc_outline.proofs.FieldLemmas.{
   field_less,
   key_kind_fits,
   takes_end,
+  takes_few,
   takes_full,
   takes_more,
   takes_none,
   takes_past,
 }
 use Rattle.iloc_outline.proofs.GatherLemmas.{gathers_from}
-use Rattle.iloc_outline.proofs.RoleLemmas.{short_key_kind}
+use Rattle.iloc_outline.proofs.RefusalLemmas.{refused_before}
+use Rattle.iloc_outline.proofs.RoleLemmas.{short_key_kind, tried}
+use Rattle.iloc_outline.proofs.WordLemmas.{length-pieces_of}
 use Rattle.iloc_outline.proofs.fields.read_fields.Goals as goal
 use Rattle.iloc_outline.proofs.fields.read_fields.Goals.{
   else-eq-via-then-eq+else-value-eq0,
@@ -44,8 +47,8 @@ read_value-value-requires-clause-later g c = c.keys.invariant.past.later
 pub read_value-value-requires-clause-short : goal.read_value-value-requires-clause-short
 read_value-value-requires-clause-short g c = grind (arith, short_key_kind)
 
-pub returns-then-value-eq0 : goal.returns-then-value-eq0
-returns-then-value-eq0 g c =
+pub returns-then-value-eq0-clause-read : goal.returns-then-value-eq0-clause-read
+returns-then-value-eq0-clause-read g c =
     let v = c.read_value-value in
     let field = same_true the_type (search rules) _ _ (sym c.if-eq.ensures) in (
       field,
@@ -68,10 +71,20 @@ put_from-requires g c =
       length-held c.keys.spans,
     )
 
-pub returns-in-Full : goal.returns-in-Full
-returns-in-Full g c =
+pub returns-in-Full-clause-read : goal.returns-in-Full-clause-read
+returns-in-Full-clause-read g c =
     takes_full _ c.args.cursor.now c.keys.cursor c.args.spans.now _ _ _ _ c.keys.invariant
     (c.put_from.ensures.full c.in-Full.is)
+
+pub returns-in-Full-clause-refused : goal.returns-in-Full-clause-refused
+returns-in-Full-clause-refused g c = λ _.
+    refused_before _ c.args.spans.now c.keys.spans _ _
+    (omega (
+      arith,
+      takes_few _ c.args.cursor.now c.keys.cursor c.args.spans.now _ _ _ _ c.keys.invariant,
+      length-pieces_of c.keys.cursor,
+    ))
+    (c.put_from.ensures.refused c.in-Full.is (tried c.args.role c.requires.role))
 
 pub keys-preserved : goal.keys-preserved
 keys-preserved g c =
@@ -87,8 +100,8 @@ keys-preserved g c =
     (held_spans c.put_from.new.spans) _ _ _ _ c.word_number-word.ensures c.is_edited.ensures c.put_from.result
     c.put_from.ensures.put c.in_default.not-Full v.new.cursor (goes_on v.new.cursor v.result c.if-value.false)
 
-pub returns-then-value : goal.returns-then-value
-returns-then-value g c =
+pub returns-then-value-clause-read : goal.returns-then-value-clause-read
+returns-then-value-clause-read g c =
     let v = c.read_value-value in
     let key = sym c.is_key_of.ensures ∙ c.keys-test.true in
     let some : c.args.role ≡ Field → c.read_value-value.result.count ≢ 0 = λ t. elim c.else-eq.branch [
@@ -105,8 +118,8 @@ returns-then-value g c =
 pub keys-smaller : goal.keys-smaller
 keys-smaller g c = search (field_less, goes_on)
 
-pub returns : goal.returns
-returns g c =
+pub returns-clause-read : goal.returns-clause-read
+returns-clause-read g c =
     let w = c.keys.invariant in (
       w.fields,
       w.past,

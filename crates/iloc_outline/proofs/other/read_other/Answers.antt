@@ -58,9 +58,9 @@ pieces-preserved g c = search (other_next, one_more, between)
 ended : (g : Over) (c : After-is_last g) → c.is_last.result ≡ true → IsEnd c.pieces.cursor
 ended g c last = grind (arith, last_piece, between_short, between)
 
-pub returns-then-not-is_good : goal.returns-then-not-is_good
-returns-then-not-is_good g c = λ c' e spanned.
-    let after = (goal.at.returns-then-not-is_good g c).After-is_last in
+pub returns-then-not-is_good-clause-read : goal.returns-then-not-is_good-clause-read
+returns-then-not-is_good-clause-read g c = λ c' e spanned.
+    let after = (goal.at.returns-then-not-is_good-clause-read g c).After-is_last in
     end_bad c' c.args.cursor.now (ap is_other_singleton e ∙ c.requires.other) c.pieces.cursor
     c.if-is_subtag.is_good
     c.if-is_subtag.edited (one_more g after)
@@ -68,9 +68,9 @@ returns-then-not-is_good g c = λ c' e spanned.
     c.args.in_order.now
     c.if-not-is_good.true
 
-pub returns-then-is_last : goal.returns-then-is_last
-returns-then-is_last g c = λ c' e spanned.
-    let after = (goal.at.returns-then-is_last g c).After-is_last in
+pub returns-then-is_last-clause-read : goal.returns-then-is_last-clause-read
+returns-then-is_last-clause-read g c = λ c' e spanned.
+    let after = (goal.at.returns-then-is_last-clause-read g c).After-is_last in
     end_put c' c.args.cursor.now (ap is_other_singleton e ∙ c.requires.other) c.pieces.cursor
     c.if-is_subtag.is_good
     c.if-is_subtag.edited (one_more g after)
@@ -81,10 +81,10 @@ returns-then-is_last g c = λ c' e spanned.
     c.if-is_subtag.edited
     c.args.spans.now c.pieces.spans c.put_other.new.spans
     c.args.in_order.now c.pieces.in_order c.put_other.new.in_order End c.put_other.result e
-    c.pieces.invariant.spans c.pieces.invariant.in_order c.put_other.ensures)
+    c.pieces.invariant.spans c.pieces.invariant.in_order c.put_other.ensures.put)
 
-pub returns-then-not-is_good-2 : goal.returns-then-not-is_good-2
-returns-then-not-is_good-2 g c = λ c' e spanned.
+pub returns-then-not-is_good-2-clause-read : goal.returns-then-not-is_good-2-clause-read
+returns-then-not-is_good-2-clause-read g c = λ c' e spanned.
     let other = ap is_other_singleton e ∙ c.requires.other in
     let odd = sym c.is_between.ensures ∙ c.pieces-test.false in
     let spans = c.args.spans.now in
@@ -101,8 +101,8 @@ returns-then-not-is_good-2 g c = λ c' e spanned.
           (sym w.is_single.ensures ∙ w.if-not-is_single.true)
     ]
 
-pub returns : goal.returns
-returns g c = λ c' e spanned.
+pub returns-clause-read : goal.returns-clause-read
+returns-clause-read g c = λ c' e spanned.
     next_put c' c.args.cursor.now (ap is_other_singleton e ∙ c.requires.other) c.pieces.cursor
     c.pieces.is_good
     c.pieces.edited c.pieces.invariant.passed c.args.start
@@ -115,4 +115,4 @@ returns g c = λ c' e spanned.
     c.put_other-2.new.spans
     c.args.in_order.now c.pieces.in_order c.put_other-2.new.in_order Next c.put_other-2.result e
     c.pieces.invariant.spans
-    c.pieces.invariant.in_order c.put_other-2.ensures)
+    c.pieces.invariant.in_order c.put_other-2.ensures.put)

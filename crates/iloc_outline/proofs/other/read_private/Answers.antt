@@ -12,8 +12,8 @@ use Rattle.iloc_outline.proofs.other.read_private.Goals as goal
 pub words-init : goal.words-init
 words-init g c = search past_none
 
-pub returns-then-is_last : goal.returns-then-is_last
-returns-then-is_last g c = λ c' e spanned o.
+pub returns-then-is_last-clause-read : goal.returns-then-is_last-clause-read
+returns-then-is_last-clause-read g c = λ c' e spanned o.
     let word : IsWord PrivateSubtag (piece_left c.words.cursor) =
     sym c.is_private.ensures ∙ c.words-test.true in
     let end : IsEnd c.words.cursor =
@@ -35,8 +35,8 @@ words-preserved g c = record {
   spans = c.words.invariant.spans;
 }
 
-pub returns : goal.returns
-returns g c = λ c' e spanned o.
+pub returns-clause-read : goal.returns-clause-read
+returns-clause-read g c = λ c' e spanned o.
     private_odd c' c.args.cursor.now c.words.cursor c.args.spans.now c.args.spans.now o e
     c.words.invariant.passed
     (sym c.is_private.ensures ∙ c.words-test.false)

@@ -7,24 +7,24 @@ use Rattle.iloc_outline.specs.declared.outline.Head.TheVariants.{All, Block, Ref
 use Rattle.iloc_outline.proofs.FinishLemmas.{finished_identifier, refused_all, refuses_block}
 use Rattle.iloc_outline.proofs.outline.outline_identifier.Goals as goal
 
-pub returns-in-All : goal.returns-in-All
-returns-in-All g c =
+pub returns-in-All-clause-outlined : goal.returns-in-All-clause-outlined
+returns-in-All-clause-outlined g c =
     let new = c.read_head.new in
     finished_identifier (take c.args.len c.args.window.now) c.in-All.outline new.spans new.in_order
     (subst (λ t. AreHeadRead t new.cursor new.spans new.in_order (All c.in-All.outline))
-    c.cursor_in-cursor.ensures.rest c.in-All.ensures) c.args.len c.finished.new.spans c.finished.result
+    c.cursor_in-cursor.ensures.rest c.in-All.ensures.read) c.args.len c.finished.new.spans c.finished.result
     (sym (length-take-le c.args.len c.args.window.now c.requires.inside)) c.finished.ensures
 
-pub returns-in-Block : goal.returns-in-Block
-returns-in-Block g c =
+pub returns-in-Block-clause-outlined : goal.returns-in-Block-clause-outlined
+returns-in-Block-clause-outlined g c =
     let new = c.read_head.new in
     let h = subst (λ t. AreHeadRead t new.cursor new.spans new.in_order (Block c.in-Block.field-0))
-    c.cursor_in-cursor.ensures.rest c.in-Block.ensures in
+    c.cursor_in-cursor.ensures.rest c.in-Block.ensures.read in
     refuses_block (take c.args.len c.args.window.now) new.cursor c.requires.begins h.3
 
-pub returns-in-Refused : goal.returns-in-Refused
-returns-in-Refused g c =
+pub returns-in-Refused-clause-outlined : goal.returns-in-Refused-clause-outlined
+returns-in-Refused-clause-outlined g c =
     let new = c.read_head.new in
     refused_all (pieces (take c.args.len c.args.window.now)) c.in-Refused.error
     (subst (λ t. AreHeadRead t new.cursor new.spans new.in_order (Refused c.in-Refused.error))
-    c.cursor_in-cursor.ensures.rest c.in-Refused.ensures)
+    c.cursor_in-cursor.ensures.rest c.in-Refused.ensures.read)

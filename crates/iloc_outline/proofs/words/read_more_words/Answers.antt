@@ -26,6 +26,11 @@ use Rattle.iloc_spans.specs.declared.span.Role.{Role}
 use Rattle.iloc_spans.specs.declared.inserting.Inserted.{Inserted}
 use Rattle.iloc_spans.specs.declared.inserting.Inserted.TheVariants.{Put, There, Full}
 use Rattle.iloc_outline.proofs.GroupSteps.{grouped_put_from, walks_out}
+use Rattle.iloc_memory.proofs.Within.{within_more}
+use Rattle.iloc_spans.proofs.Arranging.{length-arranged}
+use Rattle.std.proofs.lemmas.List.{length-drop, length-take-le}
+use Rattle.iloc_outline.proofs.RefusalLemmas.{refused_before}
+use Rattle.iloc_outline.proofs.WordLemmas.{length-pieces_of}
 use Rattle.iloc_outline.proofs.RoleLemmas.{short_kind}
 use Rattle.iloc_spans.proofs.HeldLemmas.{length-held}
 use Rattle.iloc_outline.proofs.WordsInOrder.{
@@ -56,52 +61,64 @@ not_full r Put may e = put_full e
 not_full r There may e = there_full e
 not_full r Full may e = grind (arith, put_full, there_full)
 
-pub returns-in_default : goal.returns-in_default
-returns-in_default c = search walks_full
+pub returns-in_default-clause-read : goal.returns-in_default-clause-read
+returns-in_default-clause-read g c = search walks_full
 
 pub words-init : goal.words-init
-words-init c = (
-  c.requires.later,
-  λ first old last o n is w.
-      let held = held_spans c.args.spans.now in
-      let long = sym (length-held old ∙ is) in
-      let out = walks_out _ _ _ _ _ _ _ _ w (held_spans c.take_from.new.self) (group_spans c.in-Some.group)
-      (c.in-Some.ensures.1 ∙ ap (λ k. take k held) long)
-      (c.in-Some.ensures.0 ∙ ap (λ k. spans_in_order (drop k held)) long) in
-      (out.0, (last, out.1)),
-)
+words-init g c =
+    let held = held_spans c.args.spans.now in
+    let taken = c.in-Some.ensures.taken in
+    record {
+      later = c.requires.later;
+      walks = λ first old last o n is w.
+          let long = sym (length-held old ∙ is) in
+          let out = walks_out _ _ _ _ _ _ _ _ w (held_spans c.take_from.new.self) (group_spans c.in-Some.group)
+          (taken.1 ∙ ap (λ k. take k held) long)
+          (taken.0 ∙ ap (λ k. spans_in_order (drop k held)) long) in
+          (out.0, (last, out.1));
+      few = omega (
+        arith,
+        ap length taken.0,
+        ap length taken.1,
+        length-arranged (λ s. s.word) (drop c.args.from held),
+        length-drop c.args.from held,
+        c.requires.from,
+        length-held c.args.spans.now,
+        length-take-le c.args.from held (omega (arith, c.requires.from, length-held c.args.spans.now)),
+      );
+    }
 
-pub returns-then-eq : goal.returns-then-eq
-returns-then-eq c = λ first old last o n is w.
-    let h = c.words.invariant.1 first old last o n is w in
+pub returns-then-eq-clause-read : goal.returns-then-eq-clause-read
+returns-then-eq-clause-read g c = λ first old last o n is w.
+    let h = c.words.invariant.walks first old last o n is w in
     let F = held_spans c.words.spans in
     let word = sym c.fits.ensures ∙ c.words-test.true in
     let put = rw c.span_of.ensures at (grouped_put_from old.count c.span_of.result F
     (group_spans c.words.group) (group_spans c.put.new.self)
     h.1.0 c.put.result (ap length h.0 ∙ length-held old) (λ f. there_full (sym c.in-There.is ∙ f))
-    c.put.ensures) in (
+    c.put.ensures.put) in (
       same_true the_type (search rules) _ _ (sym c.eq.ensures ∙ c.if-eq.true),
       walks_repeat _ _ _ old _ _ _ _ h.1.1 c.requires.role word (F ++ group_spans c.put.new.self) _ _ _ refl
           c.put.result put c.in-There.is,
     )
 
-pub returns-in-Full : goal.returns-in-Full
-returns-in-Full c = search walks_full
+pub returns-in-Full-clause-read : goal.returns-in-Full-clause-read
+returns-in-Full-clause-read g c = search walks_full
 
-pub returns-then-is_last : goal.returns-then-is_last
-returns-then-is_last c = λ first old last o n is w.
+pub returns-then-is_last-clause-read : goal.returns-then-is_last-clause-read
+returns-then-is_last-clause-read g c = λ first old last o n is w.
     let may : IsKept c.args.role c.put.result = elim c.match-put.branch [
       | in-Put b ↦ inl b.in-Put.is
       | in-There+else-eq b ↦ inr (b.in-There.is, same_false the_type _ _ (sym b.eq.ensures ∙ b.if-eq.false))
     ] in
-    let h = c.words.invariant.1 first old last o n is w in
+    let h = c.words.invariant.walks first old last o n is w in
     let F = held_spans c.words.spans in
     let word = sym c.fits.ensures ∙ c.words-test.true in
     let put = rw c.span_of.ensures at (grouped_put_from old.count c.span_of.result F
     (group_spans c.words.group) (group_spans c.put.new.self)
     h.1.0 c.put.result (ap length h.0 ∙ length-held old) (not_full c.args.role c.put.result may)
-    c.put.ensures) in
-    elim c.put_group.ensures [
+    c.put.ensures.put) in
+    elim c.put_group.ensures.put [
       | inl f ↦ rw f (walks_full _ _ _ old _ _ _ _ w c.requires.many)
       | inr b ↦
           rw b.0 (walks_end _ _ _ old _ _ _ _ h.1.1 c.requires.role word
@@ -110,37 +127,39 @@ returns-then-is_last c = λ first old last o n is w.
     ]
 
 pub advance-requires-clause-short : goal.advance-requires-clause-short
-advance-requires-clause-short c = grind (arith, short_kind)
+advance-requires-clause-short g c = grind (arith, short_kind)
 
 pub words-preserved : goal.words-preserved
-words-preserved c = (
-  c.advance.ensures.later,
-  λ first old last o n is w.
+words-preserved g c = record {
+  later = c.advance.ensures.later;
+  walks = λ first old last o n is w.
       let may : IsKept c.args.role c.put.result = elim c.match-put.branch [
         | in-Put b ↦ inl b.in-Put.is
-        | in-There+else-eq b ↦ inr (b.in-There.is, same_false the_type _ _ (sym b.eq.ensures ∙ b.if-eq.false))
+        | in-There+else-eq b ↦
+            inr (b.in-There.is, same_false the_type _ _ (sym b.eq.ensures ∙ b.if-eq.false))
       ] in
-      let h = c.words.invariant.1 first old last o n is w in
+      let h = c.words.invariant.walks first old last o n is w in
       let F = held_spans c.words.spans in
       let word = sym c.fits.ensures ∙ c.words-test.true in
       let put = rw c.span_of.ensures at (grouped_put_from old.count c.span_of.result F
       (group_spans c.words.group) (group_spans c.put.new.self)
       h.1.0 c.put.result (ap length h.0 ∙ length-held old) (not_full c.args.role c.put.result may)
-      c.put.ensures) in (
+      c.put.ensures.put) in (
         h.0,
         (
           _,
           walks_more _ _ _ old _ _ _ _ h.1.1 c.requires.role word (F ++ group_spans c.put.new.self) _ _ _ refl
               c.put.result put may c.advance.new.cursor c.advance.ensures,
         ),
-      ),
-)
+      );
+  few = omega (arith, c.words.invariant.few, c.put.ensures.few, ap length c.advance.ensures.pieces);
+}
 
-pub returns : goal.returns
-returns c = λ first old last o n is w.
-    let h = c.words.invariant.1 first old last o n is w in
+pub returns-clause-read : goal.returns-clause-read
+returns-clause-read g c = λ first old last o n is w.
+    let h = c.words.invariant.walks first old last o n is w in
     let none = sym c.fits.ensures ∙ c.words-test.false in
-    elim c.put_group-2.ensures [
+    elim c.put_group-2.ensures.put [
       | inl f ↦
           rw f (walks_full _ _ _ old _ _ _ _ w c.requires.many)
       | inr b ↦
@@ -151,3 +170,18 @@ returns c = λ first old last o n is w.
             walks_past _ _ _ old _ _ _ _ h.1.1 c.put_group-2.new.spans (sym b.1) none,
           )
     ]
+
+pub returns-then-is_last-clause-refused : goal.returns-then-is_last-clause-refused
+returns-then-is_last-clause-refused g c = λ e.
+    refused_before _ c.args.spans.now c.words.spans _ _
+    (omega (arith, c.words.invariant.few, c.put.ensures.few, length-pieces_of c.words.cursor))
+    (c.put_group.ensures.refused (λ n. cc))
+
+pub returns-clause-refused : goal.returns-clause-refused
+returns-clause-refused g c = λ e.
+    refused_before _ c.args.spans.now c.words.spans _ _ (omega (arith, c.words.invariant.few))
+    (c.put_group-2.ensures.refused (λ n. cc))
+
+pub returns-in-Full-clause-refused : goal.returns-in-Full-clause-refused
+returns-in-Full-clause-refused g c = λ e.
+    within_more _ _ _ (omega (arith, c.requires.many)) (c.put.ensures.refused c.in-Full.is)

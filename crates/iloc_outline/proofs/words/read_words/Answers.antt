@@ -1,13 +1,15 @@
-use Rattle.std.proofs.Common.{rules, ◌∙◌, sym, arith, inl, inr, refl}
+use Rattle.std.proofs.Common.{length, ap, rules, ◌∙◌, sym, arith, inl, inr, refl}
 use denote.Enum.Bare.{same_false, same_true}
 use Rattle.iloc_spans.specs.contracts.span.Role.{the_type}
 use Rattle.iloc_spans.specs.Spans.{held_spans}
 use Rattle.iloc_outline.proofs.GatherLemmas.{gathers_from, put_full}
+use Rattle.iloc_outline.proofs.RefusalLemmas.{refused_before}
 use Rattle.iloc_outline.proofs.RoleLemmas.{short_kind}
 use Rattle.iloc_spans.proofs.HeldLemmas.{length-held}
 use Rattle.iloc_outline.proofs.WordsInOrder.{
   IsKept,
   walks_end,
+  walks_few,
   walks_more,
   walks_none,
   walks_past,
@@ -22,11 +24,22 @@ words-init g c = search walks_none
 pub span_of-span-requires-clause-later : goal.span_of-span-requires-clause-later
 span_of-span-requires-clause-later g c = c.words.invariant.past.later
 
-pub returns-in-Full : goal.returns-in-Full
-returns-in-Full g c =
-    c.read_words.ensures c.args.cursor.now c.args.spans.now c.words.last c.args.in_order.now
+pub returns-in-Full-clause-read : goal.returns-in-Full-clause-read
+returns-in-Full-clause-read g c =
+    c.read_words.ensures.read c.args.cursor.now c.args.spans.now c.words.last c.args.in_order.now
     c.words.in_order refl
     (rw (put_full _ _ _ _ _ _ _ _ c.put_from.result c.in-Full.is c.put_from.ensures.put) c.words.invariant)
+
+pub returns-in-Full-clause-refused : goal.returns-in-Full-clause-refused
+returns-in-Full-clause-refused g c = λ e.
+    let same = put_full _ _ _ _ _ _ _ _ c.put_from.result c.in-Full.is c.put_from.ensures.put in
+    refused_before _ c.args.spans.now c.put_from.new.spans _ _
+    (omega (
+      arith,
+      ap length same,
+      walks_few _ _ _ c.args.spans.now _ _ _ _ c.words.invariant,
+    ))
+    (c.read_words.ensures.refused e)
 
 pub put_from-requires : goal.put_from-requires
 put_from-requires g c =
@@ -37,8 +50,8 @@ put_from-requires g c =
       length-held c.words.spans,
     )
 
-pub returns-then-eq : goal.returns-then-eq
-returns-then-eq g c =
+pub returns-then-eq-clause-read : goal.returns-then-eq-clause-read
+returns-then-eq-clause-read g c =
     let word = sym c.fits.ensures ∙ c.words-test.true in
     let put = rw c.span_of-span.ensures at c.put_from.ensures.put in (
       same_true the_type (search rules) _ _ (sym c.eq.ensures ∙ c.if-eq.true),
@@ -47,8 +60,8 @@ returns-then-eq g c =
           refl c.put_from.result put c.in-There.is,
     )
 
-pub returns-then-is_last : goal.returns-then-is_last
-returns-then-is_last g c =
+pub returns-then-is_last-clause-read : goal.returns-then-is_last-clause-read
+returns-then-is_last-clause-read g c =
     let word = sym c.fits.ensures ∙ c.words-test.true in
     let put = rw c.span_of-span.ensures at c.put_from.ensures.put in
     let may : IsKept c.args.role c.put_from.result = elim c.match-put_from.branch [
@@ -74,8 +87,8 @@ words-preserved g c =
     (held_spans c.put_from.new.spans) _ _ _
     refl c.put_from.result put may c.advance.new.cursor c.advance.ensures
 
-pub returns : goal.returns
-returns g c =
+pub returns-clause-read : goal.returns-clause-read
+returns-clause-read g c =
     let w = c.words.invariant in
     let none = sym c.fits.ensures ∙ c.words-test.false in
     (w.words, w.past, none, walks_past _ _ _ c.args.spans.now _ _ _ _ w c.words.spans refl none)

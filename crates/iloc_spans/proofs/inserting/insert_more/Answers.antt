@@ -7,8 +7,8 @@ use Rattle.iloc_spans.proofs.inserting.insert_more.Goals as goal
 use Rattle.iloc_spans.proofs.inserting.insert_more.Goals.{else-at-held-via-then-at-held+else-held-at}
 use Rattle.iloc_spans.proofs.inserting.insert_more.Goals.{else-at-held-via-else-at-held}
 
-pub returns-then-held-at : goal.returns-then-held-at
-returns-then-held-at c = λ before ss n s.
+pub returns-then-held-at-clause-inserted : goal.returns-then-held-at-clause-inserted
+returns-then-held-at-clause-inserted g c = λ before ss n s.
     let held = c.as_slice-held.result.now in
     let is = c.as_slice-held.ensures ∙ c.move_out.ensures.held in
     let at = c.place_of-at.result in
@@ -23,8 +23,8 @@ returns-then-held-at c = λ before ss n s.
           c.if-at-held.true here,
     )
 
-pub returns-then-insert : goal.returns-then-insert
-returns-then-insert c = λ before ss n s.
+pub returns-then-insert-clause-inserted : goal.returns-then-insert-clause-inserted
+returns-then-insert-clause-inserted g c = λ before ss n s.
     let held = c.as_slice-held.result.now in
     let is = c.as_slice-held.ensures ∙ c.move_out.ensures.held in
     let p = c.place_of-at.ensures in

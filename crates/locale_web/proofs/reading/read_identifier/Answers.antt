@@ -13,6 +13,6 @@ returns-then-not-begins_with_language c =
 
 pub returns-in-Normal : goal.returns-in-Normal
 returns-in-Normal c =
-    let h = c.in-Normal.ensures in
+    let h = c.in-Normal.ensures.outlined in
     identifier_outlined (take c.args.len c.args.window.now) c.outline_identifier.new.spans c.in-Normal.outline
     h.0 h.1 h.2

@@ -6,4 +6,4 @@ use Rattle.iloc_spans.proofs.group.Group.put_into.Given as goal
 
 -- the spans so far stand behind the others
 abbrev pub invariant-loop-span : goal.invariant-loop-span
-invariant-loop-span l = held_spans l.spans ≡ held_spans l.fn.spans ++ map (deref {X = Span}) l.yielded
+invariant-loop-span g l = held_spans l.spans ≡ held_spans l.fn.spans ++ map (deref {X = Span}) l.yielded

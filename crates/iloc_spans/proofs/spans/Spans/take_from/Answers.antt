@@ -28,14 +28,14 @@ more_from held from i l k =
     ∙ ap (λ m. take m (drop from held)) (omega arith)
 
 pub loop-i-preserved : goal.loop-i-preserved
-loop-i-preserved c =
+loop-i-preserved g c =
     let held = c.as_slice-held.result.now in
-    grouped _ _ _ c.put.result c.in_default-put.not-Full c.put.ensures
+    grouped _ _ _ c.put.result c.in_default.not-Full c.put.ensures.put
     (take (c.loop-i.i - c.args.from) (drop c.args.from held)) c.loop-i.invariant
     ∙ ap spans_in_order (more_from held c.args.from c.loop-i.i c.loop-i.auto.i c.loop-i-test.true)
 
-pub returns : goal.returns
-returns c =
+pub returns-clause-taken : goal.returns-clause-taken
+returns-clause-taken g c =
     let held = c.as_slice-held.result.now in (
       c.loop-i.invariant
           ∙ ap spans_in_order (take_all (c.loop-i.i - c.args.from) (drop c.args.from held)
