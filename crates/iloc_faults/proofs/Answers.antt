@@ -1,15 +1,10 @@
 -- The outcome, found piece by piece, says whether a text is accepted, and the fault of an identifier or a
 -- locale.
-use Rattle.std.proofs.Common.{◌≡◌, ◌≢◌, Bool, true, false, not, cond, List, [], ◌∷◌, Option, Some, None}
-use Rattle.std.proofs.Common.{Result, Ok, Err, MatchResult, refl, sym, ap, ◌∙◌, subst, true≢false, ◌↔◌}
-use Rattle.iloc_spec_grammar.specs.Syntax.{Text, Language, languages, is_word, pieces, head, tail_blocks}
-use Rattle.iloc_spec_grammar.specs.Syntax.{front, blocks, Identifier}
+use Rattle.std.proofs.Common.{◌≡◌, ◌≢◌, true, List, ◌∷◌, Option, Some, None, Result, Ok, Err, MatchResult}
+use Rattle.std.proofs.Common.{refl, sym, ap, ◌∙◌, subst, true≢false, ◌↔◌, arith}
+use Rattle.iloc_spec_grammar.specs.Syntax.{Text, languages, pieces, head, tail_blocks, Identifier}
 use Rattle.iloc_spec_grammar.specs.Meaning.{Fault, Means, IdentifierMeans, HasFault, HasIdentifierFault}
-use Rattle.iloc_spec_grammar.specs.Meaning.{InvalidLanguage, InvalidSubtag}
-use Rattle.iloc_spec_grammar.specs.Tree.{meaning}
-use Rattle.iloc_spec_grammar.specs.Reading.{identifier_of, written_of}
-use Rattle.iloc_spec_grammar.specs.Computing.{identifier_result, locale_result, is_identifier, first_fault}
-use Rattle.iloc_spec_grammar.specs.Computing.{unless_fault}
+use Rattle.iloc_spec_grammar.specs.Computing.{identifier_result, locale_result}
 use Rattle.iloc_spec_grammar.proofs.RawLaws.{languages_table}
 use Rattle.iloc_spec_grammar.proofs.PiecesLaws.{at_pieces}
 use Rattle.iloc_spec_grammar.proofs.ComputingLaws.{locale_answers, computed_means, computed_identifier}
@@ -32,42 +27,16 @@ abbrev pub fault_in : {X : Type 0} → Result X Fault → Option Fault
 fault_in (Ok x) = None
 fault_in (Err f) = Some f
 
-unless : {X : Type 0} (o : Option Fault) (x : X) → fault_in (unless_fault o x) ≡ o
-unless None x = refl
-unless (Some f) x = refl
-
 -- ---- the outcome is the answer of the plain programs
 
 langid_verdict : (p : Text) (ps : List Text) →
     outcome Langid started (p ∷ ps) ≡ fault_in (identifier_result languages (p ∷ ps))
-langid_verdict p ps = identifier_verdict p ps
-    ∙ by (is_word (Language languages) p) refl (is_identifier languages (identifier_of (p ∷ ps))) refl
-  where
-    by : (a : Bool) → is_word (Language languages) p ≡ a → (b : Bool) →
-        is_identifier languages (identifier_of (p ∷ ps)) ≡ b
-        → cond (not (is_word (Language languages) p)) (Some InvalidLanguage)
-        (cond (not (is_identifier languages (identifier_of (p ∷ ps)))) (Some InvalidSubtag) None)
-        ≡ fault_in (identifier_result languages (p ∷ ps))
-    by false e b f = rw e refl
-    by true e true f = rw (e, f) refl
-    by true e false f = rw (e, f) refl
+langid_verdict p ps = grind (arith, identifier_verdict)
 
 locale_of : (t p : Text) (ps : List Text) → pieces t ≡ p ∷ ps →
     locale_fault p ps ≡ fault_in (locale_result languages t)
 unfolding locale_result
-locale_of t p ps e = rw e
-    (by (is_word (Language languages) p) refl (is_identifier languages (identifier_of (p ∷ front ps))) refl)
-  where
-    by : (a : Bool) → is_word (Language languages) p ≡ a → (b : Bool) →
-        is_identifier languages (identifier_of (p ∷ front ps)) ≡ b
-        → locale_fault p ps
-        ≡ fault_in (cond (not (is_word (Language languages) p)) (Err InvalidLanguage)
-        (cond (not (is_identifier languages (identifier_of (p ∷ front ps)))) (Err InvalidSubtag)
-        (unless_fault (first_fault languages [] (blocks ps)) (meaning (written_of (p ∷ ps))))))
-    by false e b f = rw e refl
-    by true e true f =
-        rw (e, f) (sym (unless (first_fault languages [] (blocks ps)) (meaning (written_of (p ∷ ps)))))
-    by true e false f = rw (e, f) refl
+locale_of t p ps e = grind arith
 
 -- the pieces are one or more
 some_pieces : (t : Text) → (p : Text) × (ps : List Text) × (pieces t ≡ p ∷ ps)

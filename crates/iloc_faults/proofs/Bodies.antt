@@ -1,16 +1,14 @@
 -- What follows a singleton, one piece more: what the rules of the grammar ask of the rest.
-use Rattle.std.proofs.Common.{◌≡◌, inl, inr, ℕ, suc, ◌+◌, Bool, true, false, cond, ◌&&◌, ◌||◌, List, [], ◌∷◌}
-use Rattle.std.proofs.Common.{length, map, nat_lt, refl, sym, ap, ap₂, ◌∙◌, arith}
-use Rattle.std.proofs.Common.{true≢false}
+use Rattle.std.proofs.Common.{◌≡◌, ℕ, suc, ◌+◌, Bool, true, false, cond, ◌&&◌, ◌||◌, List, [], ◌∷◌}
+use Rattle.std.proofs.Common.{length, nat_lt, refl, ap₂, arith}
 use Rattle.std.specs.List.{list_all}
 use Rattle.std.specs.Int.{is_in_range}
-use Rattle.std.proofs.lemmas.Bool.{cases_Bool, false_from_ne_true, lt-ltb, eqb-false}
-use Rattle.iloc_spec_grammar.specs.Syntax.{Text, Fields, Language, Script, Region, Variant, UnicodeKey}
-use Rattle.iloc_spec_grammar.specs.Syntax.{TransformKey, Attribute, Subtag, languages, is_word, IsWord, lower}
-use Rattle.iloc_spec_grammar.specs.Syntax.{word_cmp}
-use Rattle.iloc_spec_grammar.specs.Reading.{take_first, skip_first, is_two, before_key, fields_from}
+use Rattle.std.proofs.lemmas.Bool.{cases_Bool, false_from_ne_true, lt-ltb}
+use Rattle.iloc_spec_grammar.specs.Syntax.{Text, Fields, Language, UnicodeKey}
+use Rattle.iloc_spec_grammar.specs.Syntax.{TransformKey, Attribute, Subtag, languages, is_word, IsWord}
+use Rattle.iloc_spec_grammar.specs.Reading.{take_first, is_two, before_key, fields_from}
 use Rattle.iloc_spec_grammar.specs.Reading.{identifier_of, front_of, unicode_of, transform_of}
-use Rattle.iloc_spec_grammar.specs.Computing.{holds_if_some, all_different, is_identifier, is_keyword}
+use Rattle.iloc_spec_grammar.specs.Computing.{holds_if_some, is_identifier, is_keyword}
 use Rattle.iloc_spec_grammar.specs.Computing.{is_unicode, is_field, is_transform, is_other, repeats_variant}
 use Rattle.iloc_spec_grammar.proofs.WordsLaws.{length-attribute, length-unicode_key, length-transform_key}
 use Rattle.iloc_faults.proofs.Words.{good, repeats}
@@ -39,27 +37,19 @@ abbrev pub of_unicode : Text → Bool
 of_unicode p = is_word Attribute p || is_word UnicodeKey p
 
 more_no_key : (p : Text) → is_two p ≡ false → is_word UnicodeKey p ≡ false
-more_no_key p h = false_from_ne_true _ (λ e. absurd (eqb-false _ _ h (length-unicode_key p e)))
+more_no_key p h = grind (arith, length-unicode_key)
 
 unicode_all : (ps : List Text) →
     (list_all (is_word Attribute) (before_key is_two ps) && list_all is_keyword (fields_from is_two ps))
     ≡ list_all of_unicode ps
 unicode_all [] = refl
-unicode_all (p ∷ ps) = elim (cases_Bool (is_two p)) [
-  | inl e ↦ let n = two_no_attribute p e in
-      rw (e, n) (and_assoc (is_word UnicodeKey p) _ _ ∙ ap (λ b. is_word UnicodeKey p && b) (unicode_all ps))
-  | inr e ↦ let n = more_no_key p e in
-      rw (e, n)
-      (and_assoc (is_word Attribute p) _ _ ∙ ap₂ ◌&&◌ (sym (or_false (is_word Attribute p))) (unicode_all ps))
-]
+unicode_all (p ∷ ps) =
+    grind (arith, cases_Bool, two_no_attribute, and_assoc, more_no_key, or_false, unicode_all ps)
 
 unicode_some : (ps : List Text) →
     nat_lt 0 (length (before_key is_two ps) + length (fields_from is_two ps)) ≡ nat_lt 0 (length ps)
 unicode_some [] = refl
-unicode_some (p ∷ ps) = elim (cases_Bool (is_two p)) [
-  | inl e ↦ rw e (lt-ltb 0 _ (omega arith) ∙ sym (lt-ltb 0 _ (omega arith)))
-  | inr e ↦ rw e (lt-ltb 0 _ (omega arith) ∙ sym (lt-ltb 0 _ (omega arith)))
-]
+unicode_some (p ∷ ps) = grind (arith, cases_Bool, lt-ltb)
 
 pub unicode_is : (ps : List Text) →
     is_unicode (unicode_of ps) ≡ (list_all of_unicode ps && nat_lt 0 (length ps))
@@ -73,11 +63,7 @@ has_length p = is_in_range 2 8 (length p)
 
 pub other_is : (p : Text) (ps : List Text) →
     is_other (p ∷ ps) ≡ (has_length p && cond (is_word Subtag p) (list_all has_length ps) (is_other ps))
-other_is p ps = elim (cases_Bool (is_word Subtag p)) [
-  | inl e ↦ rw (e, one_is_some) (and_assoc (has_length p) (list_all has_length ps) true
-      ∙ ap (λ b. has_length p && b) (and-true (list_all has_length ps)))
-  | inr e ↦ rw e (and_assoc (has_length p) _ _)
-]
+other_is p ps = grind arith
 
 -- ---- after `t`
 
@@ -108,38 +94,21 @@ field_is p ps e = rw e refl
 pub after_value_is : (p : Text) (ps : List Text) →
     after_value (p ∷ ps)
     ≡ cond (is_word TransformKey p) (after_key ps) (is_word Attribute p && after_value ps)
-after_value_is p ps = elim (cases_Bool (is_word TransformKey p)) [
-  | inl e ↦ rw e (field_is p ps e)
-  | inr e ↦ rw e (and_assoc (is_word Attribute p) _ _)
-]
+after_value_is p ps = grind arith
 
 pub after_key_is : (p : Text) (ps : List Text) → after_key (p ∷ ps) ≡ (is_word Attribute p && after_value ps)
-after_key_is p ps = elim (cases_Bool (is_word TransformKey p)) [
-  | inl e ↦ let n = key_no_attribute p e in rw (e, n) refl
-  | inr e ↦ rw (e, one_is_some) (ap (λ b. b && list_all is_field (fields ps))
-      (and-true (is_word Attribute p && list_all (is_word Attribute) (values ps)))
-      ∙ and_assoc (is_word Attribute p) (list_all (is_word Attribute) (values ps))
-      (list_all is_field (fields ps)))
-]
+after_key_is p ps = grind (arith, key_no_attribute, one_is_some)
 
 -- what is first is of its kind
 first_holds : (test : Text → Bool) (ps : List Text) → holds_if_some test (take_first test ps) ≡ true
-first_holds test [] = refl
-first_holds test (p ∷ ps) = elim (cases_Bool (test p)) [ inl e ↦ rw (e, e) refl | inr e ↦ rw e refl ]
+first_holds test ps = grind arith
 
 -- all pieces are an identifier
 pub identifier_is : (p : Text) (ps : List Text) →
     is_identifier languages (identifier_of (p ∷ ps))
     ≡ (is_word (Language languages) p && good stages.Language [] ps)
 unfolding identifier_of
-identifier_is p ps =
-    let s = first_holds (is_word Script) ps in
-    let r = first_holds (is_word Region) (skip_first (is_word Script) ps) in
-    rw (s, r)
-    (ap (λ b. (b && list_all (is_word Variant) (skip_first (is_word Region) (skip_first (is_word Script) ps)))
-    && all_different word_cmp (map lower (skip_first (is_word Region) (skip_first (is_word Script) ps))))
-    (and-true _)
-    ∙ and_assoc (is_word (Language languages) p) _ _)
+identifier_is p ps = grind (arith, first_holds, and-true, and_assoc)
 
 -- whether the pieces go on with words of the identifier, and then with fields
 abbrev pub after_word : Stage → List Text → List Text → Bool
@@ -147,7 +116,7 @@ after_word stage vs ps = good stage vs (values ps) && list_all is_field (fields 
 
 -- a key is no language
 pub key_no_language : (p : Text) → IsWord TransformKey p → is_word (Language languages) p ≡ false
-key_no_language p h = false_from_ne_true _ (λ e. true≢false (sym h ∙ language_no_key languages p e))
+key_no_language p h = grind (arith, language_no_key)
 
 pub repeats_none : repeats_variant languages [] ≡ false
 unfolding is_word languages
@@ -159,11 +128,7 @@ pub transform_is : (p : Text) (ps : List Text) →
     ≡ cond (is_word TransformKey p) (after_key ps)
     (is_word (Language languages) p && after_word stages.Language [] ps)
 unfolding transform_of
-transform_is p ps = elim (cases_Bool (is_word TransformKey p)) [
-  | inl e ↦ rw (e, one_is_some) (and-true _ ∙ field_is p ps e)
-  | inr e ↦ rw e (and-true _ ∙ ap (λ b. b && list_all is_field (fields ps)) (identifier_is p (values ps))
-      ∙ and_assoc (is_word (Language languages) p) _ _)
-]
+transform_is p ps = grind (arith, one_is_some, field_is, identifier_is)
 
 pub repeats_is : (p : Text) (ps : List Text) →
     repeats_variant languages (p ∷ ps) ≡ (is_word (Language languages) p && repeats stages.Language [] ps)

@@ -1,14 +1,10 @@
 -- Chunks of the variants that are left, compared with those after them.
-use Rattle.std.proofs.Common.{◌≡◌, inl, inr, ◌⊎◌, ℕ, ◌+◌, ◌-◌, ◌<◌, ◌≤◌, List, [], ◌∷◌, ◌++◌, length}
-use Rattle.std.proofs.Common.{◌/◌, refl, sym, ap, ◌∙◌, subst, arith, append_assoc, append-nil, length-append}
+use Rattle.std.proofs.Common.{◌≡◌, inl, inr, ℕ, ◌+◌, ◌-◌, ◌<◌, ◌≤◌, List, [], ◌∷◌, ◌++◌, length, ◌/◌}
+use Rattle.std.proofs.Common.{refl, sym, ap, ◌∙◌, subst, arith, append_assoc, append-nil, length-append}
 use Rattle.std.specs.Ordering.{nat_cmp, ord_min}
-use Rattle.std.specs.Cmp.{nat_cmp_is}
-use Rattle.std.specs.declared.cmp.Ordering.TheVariants.{Equal}
-use Rattle.std.proofs.lemmas.Bool.{cases_lt}
 use Rattle.std.proofs.lemmas.List.Sorted.{IsPermutation-sym}
 use Rattle.std.proofs.lemmas.Map.Keys.{IsDistinct-IsPermutation}
 use Rattle.std.proofs.lemmas.Nat.{div-add-mod', le-div}
-use Rattle.iloc_pieces.proofs.WordOrder.{is_less, is_greater}
 use Rattle.std.specs.List.{IsDistinct}
 use Rattle.std.specs.List.Sorted.{IsPermutation}
 use Rattle.iloc_pieces.specs.declared.place.Cursor.{Cursor}
@@ -40,33 +36,13 @@ same_ends before new first rest others later end e f g h =
     ap (λ ns. before ++ ns) (e ∙ ap (λ ns. first ++ ns) f) ∙ sym (append_assoc before first others) in
     subst (λ (ns : List ℕ). Repeats ns later) both (subst (Repeats (before ++ new)) (sym g) h)
 
--- the least of two numbers
-min_is : (a b : ℕ) → (ord_min nat_cmp a b ≤ a) × (ord_min nat_cmp a b ≤ b)
-    × ((ord_min nat_cmp a b ≡ a) ⊎ (ord_min nat_cmp a b ≡ b))
-min_is a b = elim (cases_lt b a) [
-  | inl less ↦ by b (rw (is_less b a less) refl) (omega (arith, less)) (omega arith) (inr refl)
-  | inr most ↦ by a (elim (cases_lt a b) [
-    | inl low ↦ rw (is_greater b a low) refl
-    | inr same ↦ (let e : b ≡ a = omega (arith, most, same) in rw (sym (nat_cmp_is b a Equal e)) refl)
-  ]) (omega arith) most (inl refl)
-]
-  where
-    by : (m : ℕ) → ord_min nat_cmp a b ≡ m → m ≤ a → m ≤ b → (m ≡ a) ⊎ (m ≡ b) →
-        (ord_min nat_cmp a b ≤ a) × (ord_min nat_cmp a b ≤ b)
-        × ((ord_min nat_cmp a b ≡ a) ⊎ (ord_min nat_cmp a b ≡ b))
-    by m e low high one = rw e (low, high, one)
-
 pub record IsLeast (m a b : ℕ) : Type 0 where
   pub first : m ≤ a
   pub second : m ≤ b
   pub some : 1 ≤ a → 1 ≤ b → 1 ≤ m
 
 pub least : (m a b : ℕ) → m ≡ ord_min nat_cmp a b → IsLeast m a b
-least m a b e = let k = min_is a b in record {
-  first = omega (arith, e, k.0);
-  second = omega (arith, e, k.1);
-  some = λ x y. elim k.2 [ inl f ↦ omega (arith, e, f, x) | inr f ↦ omega (arith, e, f, y) ];
-}
+least m a b e = grind arith
 
 pub compare_starts : (all : List ℕ) (at : Cursor) → AreNumbersAt at all → IsCompared all at 0 (length all)
 unfolding IsDistinct
@@ -209,18 +185,11 @@ module _ {all : List ℕ} {at : Cursor} {done fresh : ℕ} (w : IsCompared all a
       ((chunk w count few).long ∙ sym long)
 
   reaches : fresh - done - count ≤ length ((chunk w count few).later ++ w.later)
-  reaches = omega (
-    arith,
-    w.reach,
-    (chunk w count few).long,
-    ap length (chunk w count few).is,
-    length-append (chunk w count few).first (chunk w count few).later,
-    length-append (chunk w count few).later w.later,
-  )
+  reaches = grind (arith, length-append)
 
   -- what follows the chunk
   pub left_here : (ns : List ℕ) × AreNumbersAt m ns × (fresh - done - count ≤ length ns)
-  left_here = ((chunk w count few).later ++ w.later, both.1, reaches)
+  left_here = grind (arith, both, reaches)
 
   -- a number comes twice
   pub with_twice : ¬ (AreDistinct sorted) →
@@ -248,4 +217,4 @@ module _ {all : List ℕ} {at : Cursor} {done fresh : ℕ} (w : IsCompared all a
   pub found_within : (found : ℕ) →
       ((ns : List ℕ) → AreNumbersAt m ns → fresh - done - count ≤ length ns →
       ComeBefore sorted (fresh - done - count) ns found) → found ≤ fresh - done - count
-  found_within found come = (come ((chunk w count few).later ++ w.later) both.1 reaches).within
+  found_within found come = grind (arith, both, reaches)

@@ -1,6 +1,6 @@
 -- What the fault of the rest of a locale is, by what was read last: that of the rules of the grammar.
-use Rattle.std.proofs.Common.{◌≡◌, ℕ, Bool, true, false, not, cond, ◌&&◌, ◌||◌, ◌==◌, List, [], ◌∷◌, length}
-use Rattle.std.proofs.Common.{Option, Some, None, nat_lt, refl, ◌∙◌}
+use Rattle.std.proofs.Common.{◌≡◌, ℕ, Bool, true, false, not, cond, ◌&&◌, ◌==◌, List, [], ◌∷◌, length}
+use Rattle.std.proofs.Common.{Option, Some, None, nat_lt, refl, ◌∙◌, arith}
 use Rattle.std.specs.List.{list_all}
 use Rattle.std.specs.Char.{is_ascii_alphanumeric, to_ascii_lowercase}
 use Rattle.std.proofs.lemmas.Bool.{and_parts, not-true, or_parts}
@@ -20,10 +20,8 @@ use Rattle.iloc_faults.specs.declared.state.Part.TheVariants.{PrivateWord}
 use Rattle.iloc_faults.specs.declared.state.Stage.{Stage}
 use Rattle.iloc_faults.specs.Next.{Reached, plain, may_end, takes_any, part_of, is_seen, outcome}
 use Rattle.iloc_faults.proofs.Words.{good, repeats, good_end}
-use Rattle.iloc_faults.proofs.Bodies.{of_unicode, unicode_is, has_length, after_value, after_key}
-use Rattle.iloc_faults.proofs.Bodies.{or_false}
+use Rattle.iloc_faults.proofs.Bodies.{of_unicode, unicode_is, has_length, after_value, after_key, or_false}
 use Rattle.iloc_faults.proofs.Bodies.{after_word, repeats_none}
-use Rattle.iloc_pieces.proofs.RunWords.{and-true}
 
 -- the fault of the blocks that follow, if the block is good
 abbrev pub block_answer : Bool → Text → List Text → Option Fault
@@ -78,19 +76,7 @@ pub record Claims (ps : List Text) : Type 0 where
 
 pub at_end : Claims []
 unfolding transform_of
-at_end = record {
-  keyword = λ seen. refl;
-  unicode = λ seen. refl;
-  other_word = λ seen. refl;
-  other = λ seen. refl;
-  field_value = λ seen. refl;
-  field_key = λ seen. refl;
-  source = λ stage vs seen d. let g = good_end stage vs d in rw (and-true, g) refl;
-  transform = λ seen. rw repeats_none refl;
-  private_word = λ seen. refl;
-  private = λ seen. refl;
-  head = λ stage vs seen d. let g = good_end stage vs d in rw g refl;
-}
+at_end = grind (arith, good_end, repeats_none)
 
 -- ---- a block begins
 
@@ -113,27 +99,14 @@ block_fault letter second c seen ps =
 -- another singleton is none of the three
 apart : (c : ℕ) → is_other_singleton c ≡ true →
     ((c == code_t) ≡ false) × ((c == code_u) ≡ false) × ((c == code_x) ≡ false)
-apart c h =
-    let n = or_parts ((c == code_t) || (c == code_u)) (c == code_x)
-    (not-true _
-    (and_parts (is_ascii_alphanumeric c) (not (c == code_t || c == code_u || c == code_x)) h).1) in
-    let m = or_parts (c == code_t) (c == code_u) n.0 in
-    (m.0, m.1, n.1)
+apart c h = grind (arith, or_parts, not-true, and_parts)
 
 module _ {ps : List Text} (at : Claims ps) where
   of_block : (c : ℕ) (seen : List ℕ) → is_ascii_alphanumeric c ≡ true →
       outcome Locale (plain (to_ascii_lowercase c ∷ seen) (part_of (to_ascii_lowercase c))) ps
       ≡ body_fault c seen ps
-  of_block c seen a = by (kind_of (to_ascii_lowercase c) (lower_letter c a))
-    where
-      by : IsKind (to_ascii_lowercase c) →
-          outcome Locale (plain (to_ascii_lowercase c ∷ seen) (part_of (to_ascii_lowercase c))) ps
-          ≡ body_fault c seen ps
-      by (of_u e) = rw e (rw unicode_is (at.unicode (code_u ∷ seen)))
-      by (of_t e) = rw e (at.transform (code_t ∷ seen))
-      by (of_x e) = rw e (rw or_false (at.private (code_x ∷ seen)))
-      by (another h) = let n = apart (to_ascii_lowercase c) h in
-          rw (n.0, n.1, h, n.2) (at.other (to_ascii_lowercase c ∷ seen))
+  of_block c seen a =
+      grind (arith, kind_of, lower_letter, IsKind, of_u, unicode_is, of_t, of_x, or_false, another, apart)
 
   pub begins : (c : ℕ) (part : Part) (vs : List Text) (seen : List ℕ) → may_end part ≡ true →
       takes_any part ≡ false

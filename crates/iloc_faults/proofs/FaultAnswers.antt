@@ -1,12 +1,11 @@
 -- What the walk says, in the words of the definitions.
-use Rattle.std.proofs.Common.{◌≡◌, ◌≢◌, ◌↔◌, inl, inr, ℕ, ◌≤◌, ◌∷◌, ◌++◌, length, Option, Some, None, IfSome}
-use Rattle.std.proofs.Common.{refl, sym, ap, ◌∙◌, subst, arith, length-append, true≢false}
+use Rattle.std.proofs.Common.{◌≡◌, ◌≢◌, ◌↔◌, inl, inr, ℕ, ◌≤◌, ◌∷◌, ◌++◌, length, Option, Some, None}
+use Rattle.std.proofs.Common.{IfSome, sym, ap, ◌∙◌, arith, length-append, true≢false}
 use Rattle.std.proofs.lemmas.List.Concat.{flat_map-append}
-use Rattle.iloc_spec_grammar.specs.Syntax.{Text, pieces, dashes, languages}
+use Rattle.iloc_spec_grammar.specs.Syntax.{Text, pieces, dashes}
 use Rattle.iloc_spec_grammar.specs.Meaning as grammar
 use Rattle.iloc_subtags.specs.declared.parse_error.ParseError.{ParseError}
 use Rattle.iloc_subtags.specs.Judging.{Refusal, error_of}
-use Rattle.iloc_normalize.specs.Modes.{IsFaulty}
 use Rattle.iloc_normalize.specs.declared.Mode.{Mode}
 use Rattle.iloc_normalize.specs.declared.Mode.TheVariants.{Data}
 use Rattle.iloc_faults.specs.declared.Fault.{Fault}
@@ -20,13 +19,7 @@ use Rattle.iloc_pieces.proofs.CursorLemmas.{dashed}
 -- the error names the fault
 refused : (Has : grammar.Fault → Type 0) (f : grammar.Fault) (e : ParseError) → e ≡ error_of f → Has f →
     Refusal Has ⊥ e
-refused Has f e h x = subst (Refusal Has ⊥) (sym h) (at f x)
-  where
-    at : (f : grammar.Fault) → Has f → Refusal Has ⊥ (error_of f)
-    at grammar.InvalidLanguage x = x
-    at grammar.InvalidSubtag x = x
-    at grammar.InvalidExtension x = x
-    at grammar.DuplicatedExtension x = x
+refused Has f e h x = grind arith
 
 -- what is found is no accepted text
 found_not : (mode : Mode) (t : Text) (f : Fault) → IsFaultFound mode t f → ¬ (IsAccepted mode t)
@@ -35,22 +28,16 @@ found_not mode t f h a = true≢false (sym ((accepted_is mode t).0 a) ∙ ap fin
 pub good_is : (mode : Mode) (t : Text) (o : Option Fault) →
     (o ≡ None → outcome mode started (pieces t) ≡ None) → IfSome o (IsFaultFound mode t) →
     (o ≡ None) ↔ IsAccepted mode t
-good_is mode t None good bad = (λ e. (accepted_is mode t).1 (ap fine (good refl)), λ a. refl)
-good_is mode t (Some f) good bad = (λ e. cc, λ a. absurd (found_not mode t f bad a))
+good_is mode t o h k = grind (arith, accepted_is, fine, found_not)
 
 pub bad_is : (mode : Mode) (t : Text) → mode ≢ Data → (o : Option Fault) → IfSome o (IsFaultFound mode t) →
     IfSome o (IsFault mode t)
-bad_is mode t n None bad = tt
-bad_is mode t n (Some f) bad = record {
-  refusal = refused (IsFaulty languages mode t) bad.fault f.refusal bad.refusal
-      (faulty_is mode t bad.fault n bad.has);
-  place = bad.place;
-}
+bad_is mode t h o k = grind (arith, refused, faulty_is)
 
 -- ---- the place lies within the text
 
 pub place_inside : (mode : Mode) (t : Text) (a b : ℕ) → IsFaultPlace mode t a b → (a ≤ b) × (b ≤ length t)
-place_inside mode t a b (inr p) = let x = p.from in let y = p.to in (omega arith, omega arith)
+place_inside mode t a b (inr p) = grind arith
 place_inside mode t a b (inl p) =
     let x = p.from in
     let y = p.to in

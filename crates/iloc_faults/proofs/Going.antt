@@ -1,6 +1,6 @@
 -- Pieces go on exactly if all of them may come one after another.
-use Rattle.std.proofs.Common.{◌≡◌, ℕ, true, false, List, [], ◌∷◌, ◌++◌, Option, Some, None, codes, refl, sym}
-use Rattle.std.proofs.Common.{ap, ◌∙◌, subst, true≢false}
+use Rattle.std.proofs.Common.{◌≡◌, ℕ, true, false, List, [], ◌∷◌, ◌++◌, Option, Some, None, codes, refl}
+use Rattle.std.proofs.Common.{sym, ap, ◌∙◌, subst, arith}
 use Rattle.std.specs.List.{AllByRecursion}
 use Rattle.iloc_spec_grammar.specs.Syntax.{Text, languages, is_word, is_true, lower, pieces, join}
 use Rattle.iloc_spec_grammar.specs.Syntax.{IsHyphenFree}
@@ -8,10 +8,8 @@ use Rattle.iloc_spec_grammar.proofs.PiecesLaws.{pieces-join, pieces_hyphen_free}
 use Rattle.iloc_spec_grammar.proofs.ReadBack.{all_append}
 use Rattle.iloc_normalize.specs.declared.Mode.{Mode}
 use Rattle.iloc_faults.specs.declared.state.Part.{Part}
-use Rattle.iloc_faults.specs.declared.state.Part.TheVariants.{Start, Head, Transform, Source, FieldKey}
-use Rattle.iloc_faults.specs.declared.state.Part.TheVariants.{FieldValue, Unicode, Keyword, Other, OtherWord}
-use Rattle.iloc_faults.specs.declared.state.Part.TheVariants.{Private, PrivateWord, Subdivision}
-use Rattle.iloc_faults.specs.declared.state.Part.TheVariants.{SubdivisionKey, SubdivisionValue}
+use Rattle.iloc_faults.specs.declared.state.Part.TheVariants.{Start, Transform, FieldKey, Unicode, Other}
+use Rattle.iloc_faults.specs.declared.state.Part.TheVariants.{Private, Subdivision, SubdivisionKey}
 use Rattle.iloc_faults.specs.Next.{Reached, started, next, outcome, run}
 use Rattle.iloc_faults.specs.Places.{GoOn}
 use Rattle.iloc_faults.proofs.DataSteps.{fine}
@@ -28,7 +26,7 @@ run_append mode (Some r) (x ∷ xs) ys = run_append mode (next mode r x) xs ys
 -- the outcome is that of what was reached
 pub verdict_run : (mode : Mode) (r s : Reached) (xs ys : List Text) → run mode (Some r) xs ≡ Some s →
     outcome mode r (xs ++ ys) ≡ outcome mode s ys
-verdict_run mode r s [] ys e = let same : r ≡ s = cc in ap (λ q. outcome mode q ys) same
+verdict_run mode r s [] ys e = grind arith
 verdict_run mode r s (x ∷ xs) ys e = by (next mode r x) refl (λ q h. verdict_run mode q s xs ys h)
   where
     by : (o : Option Reached) → next mode r x ≡ o →
@@ -66,32 +64,10 @@ ending _ = []
 ends_at : (mode : Mode) (part : Part) (vs : List Text) (seen : List ℕ) →
     fine (outcome mode (record { part = part; variants = vs; seen = seen }) (ending part)) ≡ true
 unfolding is_word languages is_true lower
-ends_at mode Start vs seen = refl
-ends_at mode (Head stage) vs seen = refl
-ends_at mode Transform vs seen = refl
-ends_at mode (Source stage) vs seen = refl
-ends_at mode FieldKey vs seen = refl
-ends_at mode FieldValue vs seen = refl
-ends_at mode Unicode vs seen = refl
-ends_at mode Keyword vs seen = refl
-ends_at mode Other vs seen = refl
-ends_at mode OtherWord vs seen = refl
-ends_at mode Private vs seen = refl
-ends_at mode PrivateWord vs seen = refl
-ends_at mode Subdivision vs seen = refl
-ends_at mode SubdivisionKey vs seen = refl
-ends_at mode SubdivisionValue vs seen = refl
+ends_at mode part vs seen = grind arith
 
 ending_free : (part : Part) → AllByRecursion IsHyphenFree (ending part)
-ending_free Start = (refl, tt)
-ending_free Transform = (refl, tt)
-ending_free FieldKey = (refl, tt)
-ending_free Unicode = (refl, tt)
-ending_free Other = (refl, tt)
-ending_free Private = (refl, tt)
-ending_free Subdivision = (refl, (refl, tt))
-ending_free SubdivisionKey = (refl, tt)
-ending_free _ = tt
+ending_free part = grind arith
 
 front_free : (xs ys : List Text) → AllByRecursion IsHyphenFree (xs ++ ys) → AllByRecursion IsHyphenFree xs
 front_free [] ys h = tt
@@ -130,5 +106,4 @@ goes_on mode t done rest r e h = record {
 
 -- one of them may not
 pub goes_no_longer : (mode : Mode) (ps : List Text) → run mode (Some started) ps ≡ None → ¬ (GoOn mode ps)
-goes_no_longer mode ps e g = true≢false (sym ((accepted_is mode g.text).0 g.accepted)
-    ∙ ap (λ qs. fine (outcome mode started qs)) g.begins ∙ stopped mode started ps g.rest e)
+goes_no_longer mode ps e g = grind (arith, accepted_is, fine, stopped)

@@ -1,9 +1,8 @@
 -- The fault of an identifier, found piece by piece, is that of the grammar.
-use Rattle.std.proofs.Common.{◌≡◌, inl, inr, Bool, true, false, not, cond, ◌&&◌, List, [], ◌∷◌, Option, Some}
-use Rattle.std.proofs.Common.{None, MatchOption, refl, sym, ◌∙◌}
+use Rattle.std.proofs.Common.{◌≡◌, Bool, true, false, not, cond, List, [], ◌∷◌, Option, Some}
+use Rattle.std.proofs.Common.{None, MatchOption, refl, sym, ◌∙◌, arith}
 use Rattle.std.specs.List.{list_any}
 use Rattle.std.specs.Ordering.{eq_by_cmp}
-use Rattle.std.proofs.lemmas.Bool.{cases_Bool}
 use Rattle.iloc_spec_grammar.specs.Syntax.{Text, Language, languages, is_word, word_cmp, is_one_byte}
 use Rattle.iloc_spec_grammar.specs.Meaning.{InvalidLanguage, InvalidSubtag}
 use Rattle.iloc_spec_grammar.specs.Reading.{identifier_of}
@@ -11,7 +10,6 @@ use Rattle.iloc_spec_grammar.specs.Computing.{is_identifier}
 use Rattle.iloc_normalize.specs.declared.Mode.TheVariants.{Langid}
 use Rattle.iloc_faults.specs.declared.state.Part.TheVariants.{Head}
 use Rattle.iloc_faults.specs.declared.state.Stage.{Stage}
-use Rattle.iloc_faults.specs.declared.state.Stage.TheVariants as stages
 use Rattle.iloc_faults.specs.Next.{is_new, started, word_next, outcome}
 use Rattle.iloc_faults.proofs.Words.{good, good_after, good_end, single_next, word_step}
 use Rattle.iloc_faults.proofs.Bodies.{identifier_is}
@@ -40,20 +38,4 @@ pub identifier_verdict : (p : Text) (ps : List Text) →
     outcome Langid started (p ∷ ps)
     ≡ cond (not (is_word (Language languages) p)) (Some InvalidLanguage)
     (cond (not (is_identifier languages (identifier_of (p ∷ ps)))) (Some InvalidSubtag) None)
-identifier_verdict p ps = rw identifier_is (by (is_word (Language languages) p) refl)
-  where
-    start : (b : Bool) → good stages.Language [] ps ≡ b →
-        outcome Langid (in_words Head stages.Language [] []) ps
-        ≡ cond (not (good stages.Language [] ps)) (Some InvalidSubtag) None
-    start true f = rw f (words_verdict ps stages.Language [] refl ∙ rw f refl)
-    start false f = rw f (words_verdict ps stages.Language [] refl ∙ rw f refl)
-
-    by : (a : Bool) → is_word (Language languages) p ≡ a
-        → outcome Langid started (p ∷ ps)
-        ≡ cond (not (is_word (Language languages) p)) (Some InvalidLanguage)
-        (cond (not (is_word (Language languages) p && good stages.Language [] ps)) (Some InvalidSubtag) None)
-    by false e = elim (cases_Bool (is_one_byte p)) [ inl o ↦ rw (o, e) refl | inr o ↦ rw (o, e) refl ]
-    by true e = elim (cases_Bool (is_one_byte p)) [
-      | inl o ↦ rw (o, e) (start (good stages.Language [] ps) refl)
-      | inr o ↦ rw (o, e) (start (good stages.Language [] ps) refl)
-    ]
+identifier_verdict p ps = grind (arith, identifier_is, good, in_words, words_verdict)

@@ -1,12 +1,11 @@
 -- The fault of a locale, found piece by piece, is that of the grammar.
 use Rattle.std.proofs.Common.{◌≡◌, inl, inr, ℕ, Bool, true, false, not, cond, ◌&&◌, List, [], ◌∷◌, length}
-use Rattle.std.proofs.Common.{Option, Some, None, MatchOption, nat_lt, refl, ap, ◌∙◌}
+use Rattle.std.proofs.Common.{Option, Some, None, MatchOption, nat_lt, refl, ap, ◌∙◌, arith}
 use Rattle.std.specs.List.{list_any, list_all}
 use Rattle.std.specs.Ordering.{eq_by_cmp}
 use Rattle.std.proofs.lemmas.Bool.{cases_Bool}
-use Rattle.iloc_spec_grammar.specs.Syntax.{Text, Language, Variant, TransformKey, Attribute, Subtag}
-use Rattle.iloc_spec_grammar.specs.Syntax.{PrivateSubtag, languages, is_word, word_cmp, is_one_byte, front}
-use Rattle.iloc_spec_grammar.specs.Syntax.{blocks}
+use Rattle.iloc_spec_grammar.specs.Syntax.{Text, Language, Variant, TransformKey, Attribute, PrivateSubtag}
+use Rattle.iloc_spec_grammar.specs.Syntax.{languages, is_word, word_cmp, is_one_byte, front, blocks}
 use Rattle.iloc_spec_grammar.specs.Meaning.{Fault, InvalidLanguage, InvalidSubtag, InvalidExtension}
 use Rattle.iloc_spec_grammar.specs.Reading.{transform_of, identifier_of}
 use Rattle.iloc_spec_grammar.specs.Computing.{is_transform, is_other, is_private, is_identifier, is_field}
@@ -22,8 +21,7 @@ use Rattle.iloc_faults.specs.Next.{plain, started, word_next, outcome}
 use Rattle.iloc_faults.proofs.Words.{good, repeats, good_after, repeats_after, good_end, no_next, word_step}
 use Rattle.iloc_faults.proofs.Bodies.{one_is_some, of_unicode, has_length, other_is, values, fields}
 use Rattle.iloc_faults.proofs.Bodies.{after_value, after_key, after_value_is, after_key_is, after_word}
-use Rattle.iloc_faults.proofs.Bodies.{field_is, key_no_language}
-use Rattle.iloc_faults.proofs.Bodies.{transform_is, repeats_is, identifier_is}
+use Rattle.iloc_faults.proofs.Bodies.{field_is, key_no_language, transform_is, repeats_is, identifier_is}
 use Rattle.iloc_faults.proofs.Claims.{Claims, block_answer, transform_answer, head_answer, in_words, Differ}
 use Rattle.iloc_faults.proofs.Claims.{at_end, begins}
 use Rattle.iloc_pieces.proofs.RunWords.{and-true}
@@ -64,34 +62,22 @@ module _ (p : Text) (ps : List Text) (long : is_one_byte p ≡ false) (passed : 
   keyword : (seen : List ℕ) →
       outcome Locale (plain seen Keyword) (p ∷ ps)
       ≡ block_answer (list_all of_unicode (front (p ∷ ps))) seen (p ∷ ps)
-  keyword seen = rw (long, passed)
-      (elim (cases_Bool (of_unicode p)) [ inl e ↦ rw e (at.keyword seen) | inr e ↦ rw e refl ])
+  keyword seen = grind arith
 
   unicode : (seen : List ℕ) →
       outcome Locale (plain seen Unicode) (p ∷ ps)
       ≡ block_answer (list_all of_unicode (front (p ∷ ps)) && nat_lt 0 (length (front (p ∷ ps)))) seen
       (p ∷ ps)
-  unicode seen = rw (long, passed, one_is_some, and-true)
-      (elim (cases_Bool (of_unicode p)) [ inl e ↦ rw e (at.keyword seen) | inr e ↦ rw e refl ])
+  unicode seen = grind (arith, one_is_some, of_unicode, keyword)
 
   other_word : (seen : List ℕ) →
       outcome Locale (plain seen OtherWord) (p ∷ ps)
       ≡ block_answer (list_all has_length (front (p ∷ ps))) seen (p ∷ ps)
-  other_word seen = rw (long, passed)
-      (elim (cases_Bool (has_length p)) [ inl e ↦ rw e (at.other_word seen) | inr e ↦ rw e refl ])
+  other_word seen = grind arith
 
   other : (seen : List ℕ) →
       outcome Locale (plain seen Other) (p ∷ ps) ≡ block_answer (is_other (front (p ∷ ps))) seen (p ∷ ps)
-  other seen = rw (longer, passed) (rw other_is (by (has_length p) refl (is_word Subtag p) refl))
-    where
-      by : (a : Bool) → has_length p ≡ a → (b : Bool) → is_word Subtag p ≡ b →
-          outcome Locale (plain seen Other) (p ∷ ps)
-          ≡ block_answer
-          (has_length p && cond (is_word Subtag p) (list_all has_length (front ps)) (is_other (front ps)))
-          seen ps
-      by false e b f = rw (long, e) refl
-      by true e true f = rw (long, e, f) (at.other_word seen)
-      by true e false f = rw (long, e, f) (at.other seen)
+  other seen = grind (arith, longer, other_is, has_length, other_word)
 
   field_value : (seen : List ℕ) →
       outcome Locale (plain seen FieldValue) (p ∷ ps)
@@ -110,24 +96,16 @@ module _ (p : Text) (ps : List Text) (long : is_one_byte p ≡ false) (passed : 
 
   field_key : (seen : List ℕ) →
       outcome Locale (plain seen FieldKey) (p ∷ ps) ≡ block_answer (after_key (front (p ∷ ps))) seen (p ∷ ps)
-  field_key seen = rw (longer, passed) (rw after_key_is (by (is_word Attribute p) refl))
-    where
-      by : (b : Bool) → is_word Attribute p ≡ b →
-          outcome Locale (plain seen FieldKey) (p ∷ ps)
-          ≡ block_answer (is_word Attribute p && after_value (front ps)) seen ps
-      by true f = rw (long, f) (at.field_value seen)
-      by false f = rw (long, f) refl
+  field_key seen = grind (arith, longer, after_key_is, block_answer, field_value)
 
   private_word : (seen : List ℕ) →
       outcome Locale (plain seen PrivateWord) (p ∷ ps)
       ≡ cond (list_all (is_word PrivateSubtag) (p ∷ ps)) None (Some InvalidExtension)
-  private_word seen = rw long (elim (cases_Bool (is_word PrivateSubtag p))
-      [ inl e ↦ rw e (at.private_word seen) | inr e ↦ rw e refl ])
+  private_word seen = grind arith
 
   private : (seen : List ℕ) →
       outcome Locale (plain seen Private) (p ∷ ps) ≡ cond (is_private (p ∷ ps)) None (Some InvalidExtension)
-  private seen = rw (long, one_is_some, and-true) (elim (cases_Bool (is_word PrivateSubtag p))
-      [ inl e ↦ rw e (at.private_word seen) | inr e ↦ rw e refl ])
+  private seen = grind arith
 
   head : (stage : Stage) (vs : List Text) (seen : List ℕ) → Differ vs →
       outcome Locale (in_words Head stage vs seen) (p ∷ ps)
@@ -186,33 +164,35 @@ module _ (p : Text) (ps : List Text) (long : is_one_byte p ≡ false) (passed : 
       outcome Locale (plain seen Transform) (p ∷ ps)
       ≡ transform_answer (is_transform languages (transform_of (front (p ∷ ps))))
       (repeats_variant languages (front (p ∷ ps))) seen (p ∷ ps)
-  transform seen = rw (longer, passed)
-      (rw (transform_is, repeats_is) (by (is_word TransformKey p) refl (is_word (Language languages) p) refl))
-    where
-      by : (a : Bool) → is_word TransformKey p ≡ a → (b : Bool) → is_word (Language languages) p ≡ b
-          → outcome Locale (plain seen Transform) (p ∷ ps)
-          ≡ transform_answer
-          (cond (is_word TransformKey p) (after_key (front ps))
-          (is_word (Language languages) p && after_word stages.Language [] (front ps)))
-          (is_word (Language languages) p && repeats stages.Language [] (front ps)) seen ps
-      by true e b f = let n = key_no_language p e in rw (long, e, n) (at.field_key seen)
-      by false e true f = rw (long, e, f) (at.source stages.Language [] seen refl)
-      by false e false f = rw (long, e, f) refl
+  transform seen = grind (
+    arith,
+    longer,
+    transform_is,
+    repeats_is,
+    transform_answer,
+    after_key,
+    after_word,
+    repeats,
+    key_no_language,
+    field_key,
+    source,
+  )
 
   pub at_long : Claims (p ∷ ps)
-  at_long = record {
-    keyword = keyword;
-    unicode = unicode;
-    other_word = other_word;
-    other = other;
-    field_value = field_value;
-    field_key = field_key;
-    source = source;
-    transform = transform;
-    private_word = private_word;
-    private = private;
-    head = head;
-  }
+  at_long = grind (
+    arith,
+    keyword,
+    unicode,
+    other_word,
+    other,
+    field_value,
+    field_key,
+    source,
+    transform,
+    private_word,
+    private,
+    head,
+  )
 
 -- ---- any pieces
 
@@ -220,7 +200,7 @@ pub claims : (ps : List Text) → Claims ps
 claims [] = at_end
 claims ([] ∷ ps) = at_long [] ps refl refl (claims ps)
 claims ((c ∷ []) ∷ ps) = at_single c (claims ps)
-claims ((c ∷ d ∷ p) ∷ ps) = at_long (c ∷ d ∷ p) ps (two_more (length p)) refl (claims ps)
+claims ((c ∷ d ∷ p) ∷ ps) = grind (arith, at_long, two_more, claims ps)
 
 -- the fault of a locale
 abbrev pub locale_fault : Text → List Text → Option Fault

@@ -5,10 +5,11 @@ use Rattle.std.proofs.Common.{true≢false, get_or, take, drop, set, take_all, R
 use Rattle.std.proofs.Common.{MatchResult}
 use Rattle.std.specs.Prelude.{⊤}
 use Rattle.std.specs.List.{AllByRecursion, list_any}
-use Rattle.std.specs.List.Sorted.{IsPermutation, IsNonDecreasing, IsStrictlyIncreasing, IsBinarySearchResult}
+use Rattle.std.specs.List.Sorted.{IsPermutation, IsNonDecreasing, IsStrictlyIncreasing}
+use Rattle.std.specs.List.Sorted.{IsBinarySearchResult}
 use Rattle.std.specs.Ordering.{nat_cmp}
 use Rattle.std.specs.Cmp.{IsEquivalence, eq_by_cmp_equiv, nat_cmp_total}
-use Rattle.std.proofs.lemmas.Bool.{cases_lt, or_from, or_left, or_right}
+use Rattle.std.proofs.lemmas.Bool.{cases_lt, or_from}
 use Rattle.std.proofs.lemmas.List.Folds.{list_any-append, list_any_at}
 use Rattle.std.proofs.lemmas.List.Sorted.{list_any-IsPermutation, searched}
 use Rattle.std.proofs.lemmas.List.{length-take-le, take_more_set}
@@ -33,7 +34,7 @@ pub record Cut (n : ℕ) (xs : List ℕ) : Type 0 where
   pub long : length first ≡ n
 
 pub cut_at : (n : ℕ) (xs : List ℕ) → n ≤ length xs → Cut n xs
-cut_at zero xs h = record { first = []; later = xs; is = refl; long = refl }
+cut_at zero xs h = grind arith
 cut_at (suc n) [] h = absurd (omega arith)
 cut_at (suc n) (x ∷ xs) h =
     let c = cut_at n xs (omega arith) in
@@ -79,7 +80,7 @@ others_more xs y (z ∷ zs) h k = (
 
 pub both_distinct : (xs ys : List ℕ) → AreDistinct xs → AreDistinct ys → AreOthers xs ys →
     AreDistinct (xs ++ ys)
-both_distinct xs [] d e o = subst AreDistinct (sym (append-nil xs)) d
+both_distinct xs [] d e o = grind (arith, append-nil)
 both_distinct xs (y ∷ ys) d e o = subst AreDistinct (append_assoc xs (y ∷ []) ys)
     (both_distinct (xs ++ (y ∷ [])) ys (IsDistinct-push laws xs y d o.0) (IsDistinct-tail same y ys e)
     (others_more xs y ys o.1 (IsDistinct-head same y ys e)))
@@ -114,31 +115,15 @@ Repeats xs (y ∷ ys) = ¬ (AreDistinct (xs ++ (y ∷ [])))
 pub new_numbers : (xs ys zs : List ℕ) → AreDistinct (xs ++ ys) → Repeats (xs ++ ys) zs →
     AreNew same xs (ys ++ zs) (length ys)
 new_numbers xs [] [] d r = tt
-new_numbers xs [] (z ∷ zs) d r = by (list_any (same z) xs) refl
-  where
-    by : (b : Bool) → list_any (same z) xs ≡ b → list_any (same z) xs ≡ true
-    by true e = e
-    by false e =
-        absurd (r (subst (λ ws. AreDistinct (ws ++ (z ∷ []))) (sym (append-nil xs))
-        (IsDistinct-push laws xs z (subst AreDistinct (append-nil xs) d) e)))
-new_numbers xs (y ∷ ys) zs d r = (
-  is_other xs y ys d,
-  new_numbers (xs ++ (y ∷ [])) ys zs (subst AreDistinct (sym (append_assoc xs (y ∷ []) ys)) d)
-      (subst (λ ws. Repeats ws zs) (sym (append_assoc xs (y ∷ []) ys)) r),
-)
+new_numbers xs [] (z ∷ zs) d r = grind (arith, append-nil, IsDistinct-push, laws)
+new_numbers xs (y ∷ ys) zs d r = grind (arith, is_other, append_assoc, new_numbers (xs ++ (y ∷ [])) ys zs)
 
 -- one that is among a part of them
 pub repeats_part : (xs ks os ls : List ℕ) → BeginsAmong ks ls → Repeats ((xs ++ ks) ++ os) ls
-repeats_part xs ks os [] h = tt
-repeats_part xs ks os (l ∷ ls) h = λ d. true≢false (sym found ∙ is_other ((xs ++ ks) ++ os) l [] d)
-  where
-    found : list_any (same l) ((xs ++ ks) ++ os) ≡ true
-    found = list_any-append (same l) (xs ++ ks) os
-        ∙ or_left _ _ (list_any-append (same l) xs ks ∙ or_right _ _ h)
+repeats_part xs ks os ls h = grind (arith, is_other, list_any-append)
 
 pub begins_moved : (ks ms ls : List ℕ) → IsPermutation ks ms → BeginsAmong ms ls → BeginsAmong ks ls
-begins_moved ks ms [] p h = tt
-begins_moved ks ms (l ∷ ls) p h = list_any-IsPermutation (same l) ks ms p ∙ h
+begins_moved ks ms ls h k = grind (arith, list_any-IsPermutation)
 
 -- ---- by places
 
@@ -164,24 +149,20 @@ search_is xs x r h up = by r (searched xs x r h (λ i j most less. up i j 0 most
 
 -- the number at a place, and those behind it
 pub drop_one : (ns : List ℕ) (k : ℕ) → k < length ns → drop k ns ≡ get_or ns k 0 ∷ drop (k + 1) ns
-drop_one ns k less =
-    let e : suc k ≡ k + 1 = omega arith in
-    drop-cons ns k 0 less ∙ ap (λ (j : ℕ). get_or ns k 0 ∷ drop j ns) e
+drop_one ns k less = grind (arith, drop-cons)
 
 take_one : (ns : List ℕ) (k : ℕ) → k < length ns → take (k + 1) ns ≡ take k ns ++ (get_or ns k 0 ∷ [])
-take_one ns k less =
-    let e : k + 1 ≡ suc k = omega arith in ap (λ (j : ℕ). take j ns) e ∙ take-suc ns k 0 less
+take_one ns k less = grind (arith, take-suc)
 
 -- one more that is none of them
 pub others_one : (ks ns : List ℕ) (k : ℕ) → k < length ns → AreOthers ks (take k ns) →
     list_any (same (get_or ns k 0)) ks ≡ false → AreOthers ks (take (k + 1) ns)
-others_one ks ns k less h e = subst (AreOthers ks) (sym (take_one ns k less))
-    (all_append (λ (n : ℕ). list_any (same n) ks ≡ false) (take k ns) (get_or ns k 0 ∷ []) h (e, tt))
+others_one ks ns k less h e = grind (arith, take_one, all_append)
 
 take_and_drop : (n : ℕ) (xs : List ℕ) → xs ≡ take n xs ++ drop n xs
 take_and_drop zero xs = refl
 take_and_drop (suc n) [] = refl
-take_and_drop (suc n) (x ∷ xs) = ap (λ ys. x ∷ ys) (take_and_drop n xs)
+take_and_drop (suc n) (x ∷ xs) = grind (arith, take_and_drop n xs)
 
 -- so many are others, and the next is not
 pub come_before : (ks ns : List ℕ) (most k : ℕ) → most ≤ length ns → k < most → AreOthers ks (take k ns) →
@@ -212,8 +193,7 @@ come_all ks ns most long h = record {
 -- one more that was written
 pub taken_more : (xs ns : List ℕ) (k x : ℕ) → k < length xs → k < length ns → take k xs ≡ take k ns →
     x ≡ get_or ns k 0 → take (k + 1) (set xs k x) ≡ take (k + 1) ns
-taken_more xs ns k x less few h e = take_more_set xs k x less
-    ∙ (λ j. h j ++ (e j ∷ [])) ∙ sym (take_one ns k few)
+taken_more xs ns k x less few h e = grind (arith, take_more_set, take_one)
 
 -- all were written
 pub all_taken : (xs ns ks : List ℕ) (k : ℕ) → k ≡ length xs → length ns ≡ length xs →
@@ -225,7 +205,7 @@ all_taken xs ns ks k e long h =
 -- ---- numbers that rise
 
 pub rising_differ : (xs : List ℕ) → IsStrictlyIncreasing xs → AreDistinct xs
-rising_differ xs h = IsDistinct-from_sorted nat_cmp xs (sorted_from_strictly_increasing xs h)
+rising_differ xs h = grind (arith, IsDistinct-from_sorted, sorted_from_strictly_increasing)
 
 -- a number that comes twice
 pub twice : (xs : List ℕ) (i j : ℕ) → i < j → j < length xs → get_or xs i 0 ≡ get_or xs j 0 →

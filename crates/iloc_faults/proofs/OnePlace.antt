@@ -1,18 +1,13 @@
 -- A text has one place of its fault.
-use Rattle.std.proofs.Common.{◌≡◌, ◌⊎◌, inl, inr, ℕ, ◌+◌, List, [], ◌∷◌, ◌++◌, length, refl, sym, ap, ap₂}
-use Rattle.std.proofs.Common.{◌∙◌, subst, append_assoc}
-use Rattle.iloc_spec_grammar.specs.Syntax.{Text, dashes}
+use Rattle.std.proofs.Common.{◌≡◌, ◌⊎◌, inl, inr, ℕ, List, [], ◌∷◌, ◌++◌, refl, sym, ap₂}
+use Rattle.std.proofs.Common.{◌∙◌, subst, append_assoc, arith}
+use Rattle.iloc_spec_grammar.specs.Syntax.{Text}
 use Rattle.iloc_normalize.specs.declared.Mode.{Mode}
 use Rattle.iloc_faults.specs.Places.{GoOn, StandsAtPiece, StandsAtEnd, IsFaultPlace}
 
 -- fewer pieces go on too
 pub fewer : {mode : Mode} (ps qs : List Text) → GoOn mode (ps ++ qs) → GoOn mode ps
-fewer ps qs g = record {
-  text = g.text;
-  accepted = g.accepted;
-  rest = qs ++ g.rest;
-  begins = g.begins ∙ append_assoc ps qs g.rest;
-}
+fewer ps qs g = grind (arith, append_assoc)
 
 -- two fronts of the same pieces, each followed by one more: they are equal, or one of them begins with the
 -- other and its piece
@@ -34,13 +29,7 @@ same_cut (x ∷ xs) (y ∷ ys) p q ps qs e =
 
 at_pieces : {mode : Mode} {t : Text} {a b c d : ℕ} → StandsAtPiece mode t a b → StandsAtPiece mode t c d →
     (a ≡ c) × (b ≡ d)
-at_pieces x y = elim (same_cut x.before y.before x.piece y.piece x.after y.after (sym x.cut ∙ y.cut)) [
-  | inl s ↦
-      let first = x.from ∙ ap (λ ps. length (dashes ps)) s.0 ∙ sym y.from in
-      (first, x.to ∙ ap₂ ◌+◌ first (ap length s.1) ∙ sym y.to)
-  | inr (inl s) ↦ absurd (x.no_longer (fewer _ s.0 (subst (GoOn _) s.1 y.go_on)))
-  | inr (inr s) ↦ absurd (y.no_longer (fewer _ s.0 (subst (GoOn _) s.1 x.go_on)))
-]
+at_pieces x y = grind (arith, same_cut, fewer)
 
 piece_and_end : {mode : Mode} {t : Text} {a b c d : ℕ} → StandsAtPiece mode t a b → StandsAtEnd mode t c d → ⊥
 piece_and_end x y = x.no_longer (fewer (x.before ++ (x.piece ∷ [])) x.after
@@ -51,4 +40,4 @@ pub one_place : (mode : Mode) (t : Text) (a b c d : ℕ) → IsFaultPlace mode t
 one_place mode t a b c d (inl x) (inl y) = at_pieces x y
 one_place mode t a b c d (inl x) (inr y) = absurd (piece_and_end x y)
 one_place mode t a b c d (inr x) (inl y) = absurd (piece_and_end y x)
-one_place mode t a b c d (inr x) (inr y) = (x.from ∙ sym y.from, x.to ∙ sym y.to)
+one_place mode t a b c d (inr x) (inr y) = grind arith

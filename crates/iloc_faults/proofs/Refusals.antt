@@ -1,9 +1,7 @@
 -- What a refusal says of the first piece: for its language a text is refused only if it begins with none.
-use Rattle.std.proofs.Common.{◌≡◌, ◌≢◌, ℕ, Bool, true, false, List, [], ◌∷◌, length, None, inl, inr, refl, sym, ap}
-use Rattle.std.proofs.Common.{◌∙◌, subst, arith}
-use Rattle.std.proofs.lemmas.Bool.{cases_Bool}
-use Rattle.iloc_spec_grammar.specs.Syntax.{Text, Language, languages, is_word, pieces, first_piece}
-use Rattle.iloc_spec_grammar.specs.Syntax.{is_one_byte, Block}
+use Rattle.std.proofs.Common.{◌≡◌, ◌≢◌, ℕ, Bool, true, false, List, [], ◌∷◌, length, None, inl, refl, sym}
+use Rattle.std.proofs.Common.{ap, ◌∙◌, subst, arith}
+use Rattle.iloc_spec_grammar.specs.Syntax.{Text, Language, languages, is_word, pieces, first_piece, Block}
 use Rattle.iloc_spec_grammar.specs.Meaning.{BlockFault, not_a_language, in_head, in_block}
 use Rattle.iloc_spec_grammar.specs.Meaning as faults
 use Rattle.iloc_spec_grammar.proofs.PiecesLaws.{at_pieces}
@@ -15,9 +13,7 @@ use Rattle.iloc_spec_parts.specs.DataLocales.{not_small}
 use Rattle.iloc_spec_parts.proofs.DataLaws.{data_apart, one_data_fault}
 use Rattle.iloc_subtags.specs.Judging.{error_of}
 use Rattle.iloc_subtags.specs.declared.parse_error.ParseError.{ParseError}
-use Rattle.iloc_subtags.specs.declared.parse_error.ParseError.TheVariants.{InvalidLanguage, InvalidSubtag}
-use Rattle.iloc_subtags.specs.declared.parse_error.ParseError.TheVariants.{InvalidExtension}
-use Rattle.iloc_subtags.specs.declared.parse_error.ParseError.TheVariants.{DuplicatedExtension, OutOfMemory}
+use Rattle.iloc_subtags.specs.declared.parse_error.ParseError.TheVariants.{InvalidLanguage}
 use Rattle.iloc_normalize.specs.Modes.{IsFaulty}
 use Rattle.iloc_normalize.specs.Answered.{HasRefusal}
 use Rattle.iloc_normalize.specs.declared.Mode.{Mode}
@@ -30,24 +26,15 @@ use Rattle.iloc_faults.proofs.Going.{goes_on, goes_no_longer}
 -- a refusal names a fault of the text
 pub fault_of_refusal : (mode : Mode) (t : Text) (e : ParseError) → HasRefusal mode t e →
     (f : faults.Fault) × IsFaulty languages mode t f × (e ≡ error_of f)
-fault_of_refusal mode t InvalidLanguage h = (faults.InvalidLanguage, h, refl)
-fault_of_refusal mode t InvalidSubtag h = (faults.InvalidSubtag, h, refl)
-fault_of_refusal mode t InvalidExtension h = (faults.InvalidExtension, h, refl)
-fault_of_refusal mode t DuplicatedExtension h = (faults.DuplicatedExtension, h, refl)
-fault_of_refusal mode t OutOfMemory h = absurd h
+fault_of_refusal mode t e h = grind arith
 
 same_fault : (mode : Mode) (t : Text) (f g : faults.Fault) → IsFaulty languages mode t f →
     IsFaulty languages mode t g → f ≡ g
-same_fault Langid t f g x y = one_identifier_fault _ x y
-same_fault Locale t f g x y = one_fault t x y
-same_fault Data t f g x y = one_data_fault t x y
+same_fault mode t f g h k = grind (arith, one_identifier_fault, one_fault, one_data_fault)
 
 pub one_refusal : (mode : Mode) (t : Text) (d e : ParseError) → HasRefusal mode t d → HasRefusal mode t e →
     d ≡ e
-one_refusal mode t d e x y =
-    let f = fault_of_refusal mode t d x in
-    let g = fault_of_refusal mode t e y in
-    f.2 ∙ ap error_of (same_fault mode t f.0 g.0 f.1 g.1) ∙ sym g.2
+one_refusal mode t d e x y = grind (arith, fault_of_refusal, same_fault)
 
 faulty_not : (mode : Mode) (t : Text) (f : faults.Fault) → IsAccepted mode t → IsFaulty languages mode t f → ⊥
 faulty_not Langid t f a y = identifier_apart _ _ _ a.1 y
@@ -56,7 +43,7 @@ faulty_not Data t f a y = data_apart languages_table t _ _ a.1 y
 
 -- what is refused means nothing
 pub refused_not : (mode : Mode) (t : Text) (e : ParseError) → HasRefusal mode t e → ¬ (IsAccepted mode t)
-refused_not mode t e h a = let f = fault_of_refusal mode t e h in faulty_not mode t f.0 a f.1
+refused_not mode t e h a = grind (arith, fault_of_refusal, faulty_not)
 
 -- ---- the first piece
 
@@ -87,7 +74,7 @@ language_first mode t e h other = by (begins t) refl
 
 -- no language comes first, so nothing may
 stops_at_once : (mode : Mode) (p : Text) → is_word (Language languages) p ≡ false → next mode started p ≡ None
-stops_at_once mode p e = elim (cases_Bool (is_one_byte p)) [ inl o ↦ rw (o, e) refl | inr o ↦ rw (o, e) refl ]
+stops_at_once mode p e = grind arith
 
 split : (t : Text) → (rest : List Text) × (pieces t ≡ first_piece (pieces t) ∷ rest)
 split t = at_pieces (λ ps. (rest : List Text) × (ps ≡ first_piece ps ∷ rest)) (λ p ps. (ps, refl)) t

@@ -1,25 +1,21 @@
 -- What the functions of the reader say of one piece more.
-use Rattle.std.proofs.Common.{◌≡◌, ◌≢◌, ◌==◌, ◌≤◌, ◌-◌, ℕ, zero, suc, Bool, true, false, not, ◌&&◌, List}
-use Rattle.std.proofs.Common.{[], ◌∷◌, ◌++◌, map, slice_index, true≢false, Option, Some, None, IfSome}
-use Rattle.std.proofs.Common.{option_map, refl, sym}
-use Rattle.std.proofs.Common.{ap, ◌∙◌, subst, arith}
+use Rattle.std.proofs.Common.{◌≡◌, ◌≢◌, ◌==◌, ◌≤◌, ◌-◌, ℕ, suc, Bool, true, false, not, List, [], ◌∷◌, ◌++◌}
+use Rattle.std.proofs.Common.{map, slice_index, Option, Some, None, IfSome, option_map, refl, sym, ap}
+use Rattle.std.proofs.Common.{subst, arith}
 use Rattle.std.specs.List.{list_any}
-use Rattle.std.proofs.lemmas.Bool.{ne_eqb, not-true}
 use Rattle.std.specs.Char.{to_ascii_lowercase}
 use Rattle.iloc_spec_grammar.specs.Syntax.{code_u, Text, Variant, languages, is_word, IsWord, lower}
 use Rattle.iloc_spec_grammar.specs.Syntax.{is_one_byte}
 use Rattle.iloc_spec_grammar.specs.Syntax as kinds
 use Rattle.iloc_normalize.specs.declared.Mode.{Mode}
-use Rattle.iloc_normalize.specs.declared.Mode.TheVariants.{Langid, Locale, Data}
+use Rattle.iloc_normalize.specs.declared.Mode.TheVariants.{Locale, Data}
 use Rattle.iloc_pieces.specs.Cursor.{IsNextPiece, IsShortPiece, piece_left, pieces_left}
 use Rattle.iloc_pieces.specs.declared.place.Cursor.{Cursor}
 use Rattle.iloc_pieces.proofs.CursorLemmas.{short_variant, short_region, short_script, short_field_key}
 use Rattle.iloc_pieces.proofs.CursorLemmas.{single_short}
 use Rattle.iloc_faults.specs.declared.state.Part.{Part}
 use Rattle.iloc_faults.specs.declared.state.Part.TheVariants.{Start, Head, Transform, Source, FieldKey}
-use Rattle.iloc_faults.specs.declared.state.Part.TheVariants.{FieldValue, Unicode, Keyword, Other, OtherWord}
-use Rattle.iloc_faults.specs.declared.state.Part.TheVariants.{Private, PrivateWord, Subdivision}
-use Rattle.iloc_faults.specs.declared.state.Part.TheVariants.{SubdivisionKey, SubdivisionValue}
+use Rattle.iloc_faults.specs.declared.state.Part.TheVariants.{Subdivision}
 use Rattle.iloc_faults.specs.declared.state.Stage.{Stage}
 use Rattle.iloc_faults.specs.declared.state.Stage.TheVariants.{Language, Script, Region}
 use Rattle.iloc_faults.specs.declared.state.State.{State}
@@ -27,74 +23,51 @@ use Rattle.iloc_faults.specs.Next.{Reached, plain, is_new, is_seen, when, may_be
 use Rattle.iloc_faults.specs.Next.{after_region_next, after_script_next, word_next, piece_next, block_next}
 use Rattle.iloc_faults.specs.Next.{inside_next, next}
 use Rattle.iloc_faults.specs.States.{AreSingletonsSeen, AreVariantsRead, IsEarly, HasNone, IsPieceRead}
-use Rattle.iloc_faults.specs.States.{IsWordRead, AreNew, AreNewFrom, are_same, bare, first_variants, reached}
-use Rattle.iloc_faults.specs.States.{variants_left}
+use Rattle.iloc_faults.specs.States.{IsWordRead, AreNew, AreNewFrom, are_same, bare, first_variants}
+use Rattle.iloc_faults.specs.States.{reached, variants_left}
 use Rattle.iloc_faults.proofs.VariantsLeft.{one_and_more, some_left}
 use Rattle.iloc_faults.proofs.Bits.{language_short, piece_short}
 
 -- ---- whether a variant is new
 
 pub new_data : (vs : List Text) (v : Text) → vs ≢ [] → false ≡ is_new Data vs v
-new_data [] v some = absurd (some refl)
-new_data (w ∷ ws) v some = refl
+new_data vs v h = grind arith
 
 new_many : (mode : Mode) (vs : List Text) (v : Text) → mode ≢ Data →
     is_new mode vs v ≡ not (list_any (are_same v) vs)
-new_many Langid vs v h = refl
-new_many Locale vs v h = refl
-new_many Data vs v h = absurd (h refl)
+new_many mode vs v h = grind arith
 
 -- a new one is none of them
 new_differs : (mode : Mode) (vs : List Text) (v : Text) → is_new mode vs v ≡ true →
     list_any (are_same v) vs ≡ false
-new_differs Langid vs v h = not-true _ h
-new_differs Locale vs v h = not-true _ h
-new_differs Data [] v h = refl
-new_differs Data (w ∷ ws) v h = absurd (true≢false (sym h))
+new_differs mode vs v h = grind arith
 
 -- of the words that follow, the first is new
 one_less : (vs ws : List Text) (v : Text) (n : ℕ) → AreNew are_same vs (v ∷ ws) n →
     list_any (are_same v) vs ≡ false → (k : ℕ) × (n ≡ suc k) × AreNew are_same (vs ++ (v ∷ [])) ws k
-one_less vs ws v zero h f = absurd (true≢false (sym h ∙ f))
-one_less vs ws v (suc k) h f = (k, refl, h.1)
+one_less vs ws v n h k = grind arith
 
 -- so many are new: none, or the first
 none_new : (vs ws : List Text) (v : Text) (n : ℕ) → AreNew are_same vs (v ∷ ws) n →
     list_any (are_same v) vs ≡ (n == 0)
-none_new vs ws v zero h = h
-none_new vs ws v (suc k) h =
-    let some : suc k ≢ 0 = λ e. omega (arith, e) in h.0 ∙ sym (ne_eqb (suc k) 0 some)
+none_new vs ws v n h = grind arith
 
 -- the words that are left begin with the piece, a variant
 words_left : (at : Cursor) → is_word Variant (piece_left at) ≡ true →
     map lower (variants_left at)
     ≡ lower (piece_left at) ∷ map lower (first_variants (some_left at).0)
-words_left at e = ap (map lower) (one_and_more at (some_left at).0 (some_left at).1 e)
+words_left at e = grind (arith, one_and_more, some_left)
 
 pub new_some : (mode : Mode) (vs : List Text) (at : Cursor) (n : ℕ) → mode ≢ Data →
     is_word Variant (piece_left at) ≡ true → AreNew are_same vs (map lower (variants_left at)) n →
     not (n == 0) ≡ is_new mode vs (lower (piece_left at))
-new_some mode vs at n other e h =
-    let known = subst (λ (ws : List Text). AreNew are_same vs ws n) (words_left at e) h in
-    sym (new_many mode vs (lower (piece_left at)) other
-    ∙ ap not (none_new vs _ (lower (piece_left at)) n known))
+new_some mode vs at n other e h = grind (arith, words_left, new_many, none_new)
 
 -- there is one at least
 pub new_at_least : (mode : Mode) (vs : List Text) (at : Cursor) (n : ℕ) →
     is_word Variant (piece_left at) ≡ true → is_new mode vs (lower (piece_left at)) ≡ true →
     AreNewFrom mode vs at n → (mode ≡ Data → n ≡ 1) → 1 ≤ n
-new_at_least mode vs at n e new h one = by mode refl
-  where
-    counted : mode ≢ Data → 1 ≤ n
-    counted other =
-        let known = subst (λ (ws : List Text). AreNew are_same vs ws n) (words_left at e) (h other) in
-        let less = one_less vs _ (lower (piece_left at)) n known (new_differs mode vs _ new) in
-        omega (arith, less.1)
-
-    by : (m : Mode) → mode ≡ m → 1 ≤ n
-    by Data is = let only = one is in omega (arith, only)
-    by Langid is = counted (λ other. cc)
-    by Locale is = counted (λ other. cc)
+new_at_least mode vs at n e new h one = grind (arith, words_left, one_less)
 
 -- ---- words of an identifier
 
@@ -130,36 +103,28 @@ module _ (mode : Mode) (vs : List Text) (at : Cursor) where
 
 pub region_read : (mode : Mode) (at : Cursor) → is_word kinds.Region (piece_left at) ≡ true →
     IsWordRead mode at (after_script_next mode [] (piece_left at)) (Some (Region, None))
-region_read mode at e = ([], rw e refl, short_region (piece_left at) e, tt, λ m next. refl)
+region_read mode at e = grind (arith, short_region)
 
 -- no variant comes before a script or a region
 pub none_yet : (mode : Mode) (at : Cursor) (first : Option ℕ) (vs : List Text) → first ≡ None →
     AreVariantsRead mode first at vs → vs ≡ []
-none_yet mode at None vs e h = h
-none_yet mode at (Some first) vs e h = cc
+none_yet mode at first vs h k = grind arith
 
 pub script_read : (mode : Mode) (at : Cursor) (vs : List Text) → vs ≡ [] →
     is_word kinds.Script (piece_left at) ≡ true →
     IsWordRead mode at (word_next mode Language vs (piece_left at)) (Some (Script, None))
-script_read mode at vs z e = (vs, rw e refl, short_script (piece_left at) e, refl, λ m next. z)
+script_read mode at vs z e = grind (arith, short_script)
 
 -- ---- parts without variants
 
 none_early : (p : Part) → HasNone p None
-none_early (Head Language) = refl
-none_early (Head Script) = refl
-none_early (Head Region) = tt
-none_early (Source Language) = refl
-none_early (Source Script) = refl
-none_early (Source Region) = tt
-none_early _ = tt
+none_early p = grind arith
 
 pub plain_read : (mode : Mode) (at : Cursor) (bits : ℕ) (seen : List ℕ) → AreSingletonsSeen bits seen →
     (o : Option Part) → IfSome o (λ _. IsShortPiece (piece_left at)) →
     IsPieceRead mode at (option_map (plain seen) o) (option_map (bare bits) o)
 plain_read mode at bits seen h None short = refl
-plain_read mode at bits seen h (Some p) short =
-    ([], seen, refl, short, λ m next. record { seen_are = h; variants_are = refl; early = none_early p })
+plain_read mode at bits seen h (Some p) short = grind (arith, none_early)
 
 -- the same, as the reader makes it
 pub plain_is : (mode : Mode) (at : Cursor) (bits : ℕ) (seen : List ℕ) → AreSingletonsSeen bits seen →
@@ -192,11 +157,7 @@ word_read mode of none at bits seen h o w (ws, e, short, early, more) = (
 pub block_seen : (at : Cursor) (part : Part) (seen : List ℕ) →
     is_seen seen (slice_index (piece_left at) 0) ≡ true →
     IsPieceRead Locale at (block_next Locale part seen (slice_index (piece_left at) 0)) None
-block_seen at part seen e = rw (e, and_false) refl
-  where
-    and_false : (b : Bool) → (b && false) ≡ false
-    and_false true = refl
-    and_false false = refl
+block_seen at part seen e = grind arith
 
 -- it begins
 pub block_read : (at : Cursor) (part : Part) (bits : ℕ) (seen : List ℕ) → is_one_byte (piece_left at) ≡ true →
@@ -285,21 +246,7 @@ is_inside _ = true
 
 inside_is : (mode : Mode) (part : Part) (vs : List Text) (seen : List ℕ) (p : Text) → is_inside part ≡ true →
     inside_next mode part vs seen p ≡ option_map (plain seen) (piece_next part p)
-inside_is mode Start vs seen p e = absurd (true≢false (sym e))
-inside_is mode (Head stage) vs seen p e = absurd (true≢false (sym e))
-inside_is mode Transform vs seen p e = absurd (true≢false (sym e))
-inside_is mode (Source stage) vs seen p e = absurd (true≢false (sym e))
-inside_is mode FieldKey vs seen p e = refl
-inside_is mode FieldValue vs seen p e = refl
-inside_is mode Unicode vs seen p e = refl
-inside_is mode Keyword vs seen p e = refl
-inside_is mode Other vs seen p e = refl
-inside_is mode OtherWord vs seen p e = refl
-inside_is mode Private vs seen p e = refl
-inside_is mode PrivateWord vs seen p e = refl
-inside_is mode Subdivision vs seen p e = refl
-inside_is mode SubdivisionKey vs seen p e = refl
-inside_is mode SubdivisionValue vs seen p e = refl
+inside_is mode part vs seen p h = grind arith
 
 pub other_read : (mode : Mode) (at : Cursor) (part : Part) (vs : List Text) (seen : List ℕ) (bits : ℕ) →
     AreSingletonsSeen bits seen → part ≢ Start → ((stage : Stage) → part ≢ Head stage) → part ≢ Transform →

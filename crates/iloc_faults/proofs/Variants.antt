@@ -1,10 +1,10 @@
 -- Variants that differ, one more at the end.
 use Rattle.std.proofs.Common.{◌≡◌, inl, inr, true, false, List, [], ◌∷◌, ◌++◌, refl, sym, ◌∙◌, true≢false}
+use Rattle.std.proofs.Common.{arith}
 use Rattle.std.specs.List.{list_any}
 use Rattle.std.specs.Ordering.{eq_by_cmp}
 use Rattle.std.proofs.lemmas.Bool.{and_parts, and_left, and_right, and_from, or_cases, or_parts, or_from}
 use Rattle.std.proofs.lemmas.Bool.{or_left, or_right, not-true, not_from_true, not_from_false}
-use Rattle.std.proofs.lemmas.Bool.{false_from_ne_true}
 use Rattle.std.proofs.lemmas.List.Folds.{list_any-append}
 use Rattle.iloc_spec_grammar.specs.Syntax.{Text, word_cmp, is_same}
 use Rattle.iloc_spec_grammar.specs.Computing.{all_different}
@@ -15,7 +15,7 @@ same_back : (v w : Text) → is_same v w ≡ true → is_same w v ≡ true
 same_back v w h = (word_equality w v).passes (sym ((word_equality v w).holds h))
 
 other_back : (v w : Text) → is_same v w ≡ false → is_same w v ≡ false
-other_back v w h = false_from_ne_true _ (λ e. true≢false (sym (same_back w v e) ∙ h))
+other_back v w h = grind (arith, same_back)
 
 -- a word that stands before is repeated
 pub repeat_found : (vs : List Text) (v : Text) (ws : List Text) → list_any (eq_by_cmp word_cmp v) vs ≡ true →

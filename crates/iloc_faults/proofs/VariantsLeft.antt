@@ -1,9 +1,7 @@
 -- The variants that are left, and their numbers.
-use Rattle.std.proofs.Common.{◌≡◌, ℕ, zero, suc, ◌+◌, ◌<◌, Bool, true, false, List, [], ◌∷◌, ◌++◌}
-use Rattle.std.proofs.Common.{length, map, refl, sym, ap, ◌∙◌, subst}
-use Rattle.std.proofs.Common.{if◌then◌else◌, ◌||◌, ◌≤◌, get_or, drop, arith}
+use Rattle.std.proofs.Common.{◌≡◌, ℕ, zero, suc, ◌+◌, ◌<◌, Bool, true, false, List, [], ◌∷◌, ◌++◌, length}
+use Rattle.std.proofs.Common.{map, refl, sym, ap, ◌∙◌, subst, if◌then◌else◌, ◌||◌, ◌≤◌, get_or, drop, arith}
 use Rattle.std.specs.List.{AllByRecursion, list_any}
-use Rattle.std.specs.Ordering.{is_eq}
 use Rattle.std.proofs.lemmas.List.{length-map, map-append}
 use Rattle.iloc_spec_grammar.specs.Syntax.{Text, first_piece, Variant, IsWord, is_word, lower}
 use Rattle.iloc_spec_grammar.proofs.PiecesLaws.{at_pieces}
@@ -22,7 +20,7 @@ use Rattle.iloc_faults.proofs.NewNumbers.{drop_one}
 -- words are the same if their numbers are
 same_number : (p q : Text) → IsWord Variant p → IsWord Variant q →
     are_same (lower p) (lower q) ≡ same (word_number p) (word_number q)
-same_number p q h k = ap is_eq (sym (word_order p q (variant_fits p h) (variant_fits q k)))
+same_number p q h k = grind (arith, word_order, variant_fits)
 
 same_among : (p : Text) (qs : List Text) → IsWord Variant p → AllByRecursion (IsWord Variant) qs →
     list_any (are_same (lower p)) (map lower qs) ≡ list_any (same (word_number p)) (map word_number qs)
@@ -49,10 +47,7 @@ first_number : (l : Cursor) (ps rest : List Text) (n : ℕ) (ns : List ℕ) → 
     AllByRecursion (IsWord Variant) ps → n ∷ ns ≡ map word_number ps →
     IsWord Variant (piece_left l) × (word_number (piece_left l) ≡ n)
 first_number l [] rest n ns cut h e = cc
-first_number l (p ∷ ps) rest n ns cut h e =
-    let first : piece_left l ≡ p = ap first_piece cut in
-    let number : word_number p ≡ n = cc in
-    (subst (IsWord Variant) (sym first) h.0, ap word_number first ∙ number)
+first_number l (p ∷ ps) rest n ns cut h e = grind arith
 
 pub number_here : {l : Cursor} {n : ℕ} {ns : List ℕ} → AreNumbersAt l (n ∷ ns) →
     IsWord Variant (piece_left l) × (word_number (piece_left l) ≡ n)
@@ -62,47 +57,31 @@ later_numbers : (l m : Cursor) (ps rest : List Text) (n : ℕ) (ns : List ℕ) �
     AllByRecursion (IsWord Variant) ps → n ∷ ns ≡ map word_number ps →
     pieces_left l ≡ piece_left l ∷ pieces_left m → AreNumbersAt m ns
 later_numbers l m [] rest n ns cut h e next = cc
-later_numbers l m (p ∷ ps) rest n ns cut h e next = record {
-  words = ps;
-  rest = rest;
-  cut = let both : piece_left l ∷ pieces_left m ≡ p ∷ (ps ++ rest) = sym next ∙ cut in cc;
-  variants = h.1;
-  numbers = cc;
-}
+later_numbers l m (p ∷ ps) rest n ns cut h e next = grind arith
 
 pub numbers_next : {l m : Cursor} {n : ℕ} {ns : List ℕ} → IsNextPiece l m → AreNumbersAt l (n ∷ ns) →
     AreNumbersAt m ns
-numbers_next {l} {m} {n} {ns} next a =
-    later_numbers l m a.words a.rest n ns a.cut a.variants a.numbers next.pieces
+numbers_next h k = grind (arith, later_numbers)
 
 no_numbers : (l : Cursor) → AreNumbersAt l []
-no_numbers l = record { words = []; rest = pieces_left l; cut = refl; variants = tt; numbers = refl }
+no_numbers l = grind arith
 
 last_numbers : (l : Cursor) (ps rest : List Text) (n : ℕ) (ns : List ℕ) → pieces_left l ≡ ps ++ rest →
     n ∷ ns ≡ map word_number ps → pieces_left l ≡ piece_left l ∷ [] → AreNumbersAt l ns
 last_numbers l [] rest n ns cut e one = cc
-last_numbers l (p ∷ []) rest n ns cut e one =
-    let none : ns ≡ [] = cc in subst (AreNumbersAt l) (sym none) (no_numbers l)
-last_numbers l (p ∷ (q ∷ ps)) rest n ns cut e one =
-    let both : piece_left l ∷ [] ≡ p ∷ (q ∷ (ps ++ rest)) = sym one ∙ cut in cc
+last_numbers l (p ∷ []) rest n ns cut e one = grind (arith, no_numbers)
+last_numbers l (p ∷ (q ∷ ps)) rest n ns cut e one = grind arith
 
 pub numbers_last : {l : Cursor} {n : ℕ} {ns : List ℕ} → l.piece_length ≡ l.remaining
     → IsWord Variant (piece_left l) →
     AreNumbersAt l (n ∷ ns) → AreNumbersAt l ns
-numbers_last {l} {n} {ns} e h a =
-    last_numbers l a.words a.rest n ns a.cut a.numbers
-    (last_piece l e (short_variant (piece_left l) h)).one
+numbers_last h k e = grind (arith, last_numbers, last_piece, short_variant)
 
 -- ---- the variants that are left
 
 first_variants_are : (ps : List Text) → AllByRecursion (IsWord Variant) (first_variants ps)
 first_variants_are [] = tt
-first_variants_are (p ∷ ps) = by (is_word Variant p) refl (first_variants_are ps)
-  where
-    by : (b : Bool) → is_word Variant p ≡ b → AllByRecursion (IsWord Variant) (first_variants ps) →
-        AllByRecursion (IsWord Variant) (if is_word Variant p then p ∷ first_variants ps else [])
-    by true e h = rw e (e, h)
-    by false e h = rw e tt
+first_variants_are (p ∷ ps) = grind (arith, first_variants_are ps)
 
 first_variants_begin : (ps : List Text) → (rest : List Text) × (ps ≡ first_variants ps ++ rest)
 first_variants_begin [] = ([], refl)
@@ -139,8 +118,7 @@ one_and_more l ps e h = ap first_variants e ∙ rw h refl
 
 pub one_alone : (l : Cursor) → l.piece_length ≡ l.remaining → is_word Variant (piece_left l) ≡ true →
     length (variants_left l) ≡ 1
-one_alone l e h =
-    ap length (one_and_more l [] (last_piece l e (short_variant (piece_left l) h)).one h)
+one_alone l e h = grind (arith, one_and_more, last_piece, short_variant)
 
 -- one alone is new
 one_new : (ws : List Text) → length ws ≤ 1 → AreNew are_same [] ws (length ws)
@@ -150,13 +128,10 @@ one_new (w ∷ (v ∷ ws)) few = absurd (omega (arith, few))
 
 pub few_new : (l : Cursor) (n : ℕ) → n ≡ length (variants_left l) → n ≤ 1 →
     AreNew are_same [] (map lower (variants_left l)) n
-few_new l n e few =
-    let long : length (map lower (variants_left l)) ≡ n = length-map (variants_left l) lower ∙ sym e in
-    subst (AreNew are_same [] (map lower (variants_left l))) long
-    (one_new (map lower (variants_left l)) (omega (arith, long, few)))
+few_new l n e few = grind (arith, length-map, one_new)
 
 -- ---- by places
 
 pub variant_at : (l : Cursor) (ns : List ℕ) (k : ℕ) → k < length ns → AreNumbersAt l (drop k ns) →
     AreNumbersAt l (get_or ns k 0 ∷ drop (k + 1) ns)
-variant_at l ns k less a = subst (AreNumbersAt l) (drop_one ns k less) a
+variant_at l ns k less a = grind (arith, drop_one)

@@ -1,16 +1,16 @@
 -- What the walk over the pieces of a text says.
 use Rattle.std.proofs.Common.{◌≡◌, ◌≢◌, inl, inr, ℕ, zero, suc, ◌+◌, ◌-◌, ◌<◌, ◌≤◌, true, false, ◌==◌, List}
-use Rattle.std.proofs.Common.{[], ◌∷◌, ◌++◌, length, get_or, drop, Option, Some, None, refl, sym, ap}
-use Rattle.std.proofs.Common.{true≢false}
+use Rattle.std.proofs.Common.{[], ◌∷◌, ◌++◌, length, get_or, Option, Some, None, refl, sym, ap}
 use Rattle.std.proofs.Common.{◌∙◌, arith, append_assoc, append-nil, length-append}
 use Rattle.std.specs.List.{slice_split}
-use Rattle.std.proofs.lemmas.Bool.{cases_Bool, eq-eqb, eqb-true, ne_eqb}
+use Rattle.std.proofs.lemmas.Bool.{cases_Bool, eq-eqb, ne_eqb}
 use Rattle.std.proofs.lemmas.List.{get_or-take, get_or-drop}
 use Rattle.std.proofs.lemmas.List.Concat.{flat_map-append}
-use Rattle.iloc_spec_grammar.specs.Syntax.{Text, Language, languages, is_word, is_one_byte, pieces, dashes, first_piece}
+use Rattle.iloc_spec_grammar.specs.Syntax.{Text, Language, languages, is_word, is_one_byte, pieces, dashes}
+use Rattle.iloc_spec_grammar.specs.Syntax.{first_piece}
 use Rattle.iloc_spec_grammar.specs.Meaning.{InvalidExtension}
 use Rattle.iloc_subtags.specs.Judging.{error_of}
-use Rattle.iloc_pieces.specs.Cursor.{IsNextPiece, IsShortPiece, piece_left, pieces_left, bytes_left}
+use Rattle.iloc_pieces.specs.Cursor.{IsNextPiece, piece_left, pieces_left, bytes_left}
 use Rattle.iloc_pieces.specs.declared.place.Cursor.{Cursor}
 use Rattle.iloc_pieces.proofs.CursorLemmas.{length_rest, next_at, last_piece}
 use Rattle.iloc_normalize.specs.declared.Mode.{Mode}
@@ -36,7 +36,7 @@ first_long : (t : Text) (n : ℕ) → n ≤ length t → ((k : ℕ) → k < n �
     (n < length t → get_or t n 0 ≡ 45) → length (first_piece (pieces t)) ≡ n
 unfolding pieces
 first_long [] n l none ends = omega arith
-first_long (c ∷ t) zero l none ends = let e = eq-eqb c 45 (ends (omega arith)) in rw e refl
+first_long (c ∷ t) zero l none ends = grind (arith, eq-eqb)
 first_long (c ∷ t) (suc n) l none ends =
     let e = ne_eqb c 45 (none 0 (omega arith)) in
     let h = first_long t n (omega arith) (λ k m. none (suc k) (omega arith)) (λ m. ends (omega arith)) in
@@ -50,8 +50,7 @@ pub record IsScanned (l : Cursor) (end : ℕ) : Type 0 where
 
 module _ (l : Cursor) where
   byte_is : (k : ℕ) → k < l.remaining → get_or (bytes_left l) k 0 ≡ get_or l.window.now (l.at + k) 0
-  byte_is k less = get_or-take l.remaining (drop l.at l.window.now) k 0 less
-      ∙ get_or-drop l.at l.window.now k 0
+  byte_is k less = grind (arith, get_or-take, get_or-drop)
 
   pub scan_ends : (end : ℕ) → IsScanned l end → (end < l.at + l.remaining → get_or l.window.now end 0 ≡ 45) →
       end ≡ l.at + length (piece_left l)
@@ -89,8 +88,7 @@ walk_starts mode t at e b = record {
 pub none_else : (mode : Mode) (at : Cursor) (o : Option Reached) (r : Option State) →
     ((s : State) → r ≢ Some s) →
     IsPieceRead mode at o r → o ≡ None
-none_else mode at o None n h = h
-none_else mode at o (Some s) n h = absurd (n s refl)
+none_else mode at o r h k = grind arith
 
 module _ {mode : Mode} {t : Text} {at : Cursor} {s : State} (w : IsWalked mode t at s) where
   -- what was read
@@ -100,12 +98,11 @@ module _ {mode : Mode} {t : Text} {at : Cursor} {s : State} (w : IsWalked mode t
   -- one piece more
   ran_one : (o : Option Reached) → next mode now (piece_left at) ≡ o →
       run mode (Some started) (w.done ++ (piece_left at ∷ [])) ≡ run mode o []
-  ran_one o e = run_append mode (Some started) w.done (piece_left at ∷ [])
-      ∙ ap (λ q. run mode q (piece_left at ∷ [])) w.ran ∙ ap (λ q. run mode q []) e
+  ran_one o e = grind (arith, run_append)
 
   one_cut : (rest : List Text) → pieces_left at ≡ piece_left at ∷ rest →
       pieces t ≡ (w.done ++ (piece_left at ∷ [])) ++ rest
-  one_cut rest e = w.cut ∙ ap (λ ps. w.done ++ ps) e ∙ sym (append_assoc w.done (piece_left at ∷ []) rest)
+  one_cut rest e = grind (arith, append_assoc)
 
   -- the piece may not come next
   pub walk_stops : next mode now (piece_left at) ≡ None → (f : Fault) →
@@ -193,10 +190,10 @@ module _ {mode : Mode} {t : Text} {s : State} (w : IsAll mode t s) where
 module _ (mode : Mode) (t : Text) (at : Cursor) (zero : at.at ≡ 0) (whole : bytes_left at ≡ t)
     (begins : is_word (Language languages) (first_piece (pieces t)) ≡ true) where
   language : is_word (Language languages) (piece_left at) ≡ true
-  language = ap (λ (u : Text). is_word (Language languages) (first_piece (pieces u))) whole ∙ begins
+  language = grind arith
 
   no_block : begins_block Start (piece_left at) ≡ false
-  no_block = elim (cases_Bool (is_one_byte (piece_left at))) [ inl o ↦ rw o refl | inr o ↦ rw o refl ]
+  no_block = grind arith
 
   -- it may come
   pub language_came :
@@ -226,39 +223,24 @@ words stage variants = record { part = Head stage; variants = variants; seen = 0
 -- nothing was read, and so no word may come
 pub no_word_else : (at : Cursor) (o : Option (Stage × List Text)) (r : Option (Stage × Option ℕ)) →
     ((w : Stage × Option ℕ) → r ≢ Some w) → IsWordRead Langid at o r → o ≡ None
-no_word_else at o None n h = h
-no_word_else at o (Some w) n h = absurd (n w refl)
+no_word_else at o r h k = grind arith
 
 -- a piece of one byte is no word
 pub no_word : (stage : Stage) (vs : List Text) (p : Text) → is_one_byte p ≡ true →
     word_next Langid stage vs p ≡ None
 unfolding is_word
-no_word stages.Language vs (c ∷ []) e = refl
-no_word stages.Script vs (c ∷ []) e = refl
-no_word stages.Region vs (c ∷ []) e = refl
-no_word stage vs [] e = absurd (true≢false (sym e))
-no_word stage vs (c ∷ d ∷ p) e = absurd (omega (arith, eqb-true (length (c ∷ d ∷ p)) 1 e))
+no_word stage vs p h = grind arith
 
 module _ {t : Text} {at : Cursor} {stage : Stage} {variants : Option ℕ}
     (w : IsWalked Langid t at (words stage variants)) where
   -- no word may come, and so no piece
   pub word_stops : word_next Langid stage w.variants (piece_left at) ≡ None →
       next Langid (reached (Head stage) w.variants w.seen) (piece_left at) ≡ None
-  word_stops none = elim (cases_Bool (is_one_byte (piece_left at))) [
-    | inl o ↦ rw o refl
-    | inr o ↦ rw (o, none) refl
-  ]
+  word_stops none = grind arith
 
   -- the word came
   pub word_came : (r : Stage × Option ℕ) →
       IsWordRead Langid at (word_next Langid stage w.variants (piece_left at)) (Some r) →
       IsPieceRead Langid at (next Langid (reached (Head stage) w.variants w.seen) (piece_left at))
       (Some (words r.0 r.1))
-  word_came r h = elim (cases_Bool (is_one_byte (piece_left at))) [
-    | inl o ↦ absurd (some_not_none (sym h.1 ∙ no_word stage w.variants (piece_left at) o))
-    | inr o ↦ inside_read Langid at (Head stage) w.variants w.seen (rw o refl) (Some (words r.0 r.1))
-        (head_read Langid at (Head stage) w.variants w.seen 0 w.read.seen_are stage refl r h)
-  ]
-    where
-      some_not_none : {X : Type 0} {x : X} → Some x ≢ None
-      some_not_none e = cc
+  word_came r h = grind (arith, cases_Bool, no_word, head_read)

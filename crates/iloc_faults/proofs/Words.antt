@@ -1,10 +1,9 @@
 -- The words of an identifier, one piece more.
-use Rattle.std.proofs.Common.{◌≡◌, inl, inr, Bool, true, false, not, ◌&&◌, List, [], ◌∷◌, ◌++◌, length, map}
-use Rattle.std.proofs.Common.{Option, Some, None, MatchOption, refl, sym, ap, ◌∙◌, arith, append_assoc}
-use Rattle.std.proofs.Common.{append-nil}
+use Rattle.std.proofs.Common.{◌≡◌, inl, inr, Bool, true, false, not, ◌&&◌, List, [], ◌∷◌, ◌++◌, map, Option}
+use Rattle.std.proofs.Common.{Some, None, MatchOption, arith, append_assoc, append-nil}
 use Rattle.std.specs.List.{list_any, list_all}
 use Rattle.std.specs.Ordering.{eq_by_cmp}
-use Rattle.std.proofs.lemmas.Bool.{and_right, cases_Bool, false_from_ne_true, eqb-true}
+use Rattle.std.proofs.lemmas.Bool.{cases_Bool, false_from_ne_true, eqb-true}
 use Rattle.iloc_spec_grammar.specs.Syntax.{Text, Variant, is_word, lower, word_cmp, is_one_byte}
 use Rattle.iloc_spec_grammar.specs.Syntax as kinds
 use Rattle.iloc_spec_grammar.specs.Reading.{skip_first, passing}
@@ -48,29 +47,20 @@ repeats_after p (Some w) qs = repeats w.0 w.1 qs
 
 -- nothing is left
 pub good_end : (stage : Stage) (vs : List Text) → all_different word_cmp vs ≡ true → good stage vs [] ≡ true
-good_end Language vs h = ap (all_different word_cmp) (append-nil vs) ∙ h
-good_end Script vs h = ap (all_different word_cmp) (append-nil vs) ∙ h
-good_end Region vs h = ap (all_different word_cmp) (append-nil vs) ∙ h
+good_end stage vs h = grind (arith, append-nil)
 
 -- a piece of one byte is no word of an identifier
 pub no_word : (p : Text) → is_one_byte p ≡ true →
     (is_word kinds.Script p ≡ false) × (is_word kinds.Region p ≡ false) × (is_word Variant p ≡ false)
-no_word p h =
-    let one : length p ≡ 1 = eqb-true _ _ h in (
-      false_from_ne_true _ (λ e. let k = length-script p e in absurd (omega arith)),
-      false_from_ne_true _ (λ e. let k = length-region p e in absurd (omega arith)),
-      false_from_ne_true _ (λ e. let k = length-variant p e in absurd (omega arith)),
-    )
+no_word p h = grind (arith, eqb-true, false_from_ne_true, length-script, length-region, length-variant)
 
 pub no_next : (mode : Mode) (stage : Stage) (vs : List Text) (p : Text) → is_word kinds.Script p ≡ false →
     is_word kinds.Region p ≡ false → is_word Variant p ≡ false → word_next mode stage vs p ≡ None
-no_next mode Language vs p a b c = rw (a, b, c)
-no_next mode Script vs p a b c = rw (b, c)
-no_next mode Region vs p a b c = rw c
+no_next mode stage vs p h k e = grind arith
 
 pub single_next : (mode : Mode) (stage : Stage) (vs : List Text) (p : Text) → is_one_byte p ≡ true →
     word_next mode stage vs p ≡ None
-single_next mode stage vs p h = let n = no_word p h in no_next mode stage vs p n.0 n.1 n.2
+single_next mode stage vs p h = grind (arith, no_word, no_next)
 
 -- where each variant may come that is none of those before
 module _ (mode : Mode)
@@ -88,23 +78,7 @@ module _ (mode : Mode)
 
   variant_step : (vs : List Text) (p : Text) (qs : List Text) → Differ vs →
       Step Region vs p qs (after_region_next mode vs p)
-  variant_step vs p qs d = at (is_word Variant p) refl (list_any (eq_by_cmp word_cmp (lower p)) vs) refl
-    where
-      at : (a : Bool) → is_word Variant p ≡ a → (b : Bool) → list_any (eq_by_cmp word_cmp (lower p)) vs ≡ b →
-          Step Region vs p qs (after_region_next mode vs p)
-      at false e b f = rw e (record { good_is = rw e; repeats_is = rw (e, append-nil vs, d); keeps = tt })
-      at true e true f = rw (e, many, f) (record {
-        good_is = rw e (and_right _ _ (repeat_found vs (lower p) (map lower qs) f));
-        repeats_is = rw (e, repeat_found vs (lower p) (map lower (passing (is_word Variant) qs)) f);
-        keeps = tt;
-      })
-      at true e false f = rw (e, many, f) (record {
-        good_is = rw e (ap (λ ws. list_all (is_word Variant) qs && all_different word_cmp ws)
-            (sym (append_assoc vs (lower p ∷ []) (map lower qs))));
-        repeats_is = rw e (ap (λ ws. not (all_different word_cmp ws))
-            (sym (append_assoc vs (lower p ∷ []) (map lower (passing (is_word Variant) qs)))));
-        keeps = one_more vs (lower p) d f;
-      })
+  variant_step vs p qs d = grind (arith, append-nil, repeat_found, append_assoc, one_more)
 
   region_step : (vs : List Text) (p : Text) (qs : List Text) → Differ vs →
       Step Script vs p qs (after_script_next mode vs p)

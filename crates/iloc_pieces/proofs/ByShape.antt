@@ -1,12 +1,11 @@
 -- What the shape of a piece says.
-use Rattle.std.proofs.Common.{◌≡◌, ℕ, ◌+◌, ◌*◌, ◌<◌, ◌==◌, Bool, true, false, not, ◌&&◌, cond, [], ◌∷◌}
+use Rattle.std.proofs.Common.{◌≡◌, ℕ, ◌+◌, ◌*◌, ◌<◌, ◌==◌, Bool, true, false, not, [], ◌∷◌}
 use Rattle.std.proofs.Common.{get_or, bit_or, ◌^◌, codes, refl, sym, ap, ◌∙◌, arith, inl, inr, ⊎_elim}
 use Rattle.std.specs.Char.{is_ascii_alphabetic, is_ascii_alphanumeric, to_ascii_lowercase}
 use Rattle.std.proofs.lemmas.Bool.{false_from_ne_true, and_parts, cases_Bool, eqb-true, eqb-false}
 use Rattle.std.proofs.lemmas.Bool.Decides.{nat_tests}
 use Rattle.iloc_spec_grammar.specs.Syntax.{code_u, code_t, Text, Kind, Script, IsWord, is_word, is_one_byte}
-use Rattle.iloc_spec_grammar.specs.Syntax.{is_true, is_same}
-use Rattle.iloc_spec_grammar.specs.Syntax.{lower, Bounds}
+use Rattle.iloc_spec_grammar.specs.Syntax.{is_true, is_same, lower, Bounds}
 use Rattle.iloc_spec_grammar.proofs.MapLaws.{same_itself}
 use Rattle.iloc_spec_grammar.proofs.WordsLaws.{word_letters_or_digits, letter_is, length-script}
 use Rattle.iloc_spec_grammar.proofs.WordsLaws.{is_word-lower}
@@ -25,7 +24,7 @@ unfolding shape_of
 hyphen_shape = refl
 
 hyphen_no_word : (k : Kind) → is_word k (45 ∷ []) ≡ false
-hyphen_no_word k = false_from_ne_true _ (λ h. let all = word_letters_or_digits k (45 ∷ []) h in absurd (cc))
+hyphen_no_word k = grind (arith, false_from_ne_true, word_letters_or_digits)
 
 -- a test of shapes that tells words tells whether the piece is one
 pub cursor_by_shape : (k : Kind) → Bounds 8 k → (l : Cursor) (r : Bool)
@@ -48,13 +47,7 @@ cursor_shape l short = ∥∥₁_elim l.piece (Coded-set coded_ℕ _ _) (⊎_eli
 
 one_shape : (b : ℕ) → not (shape_of (b ∷ []) == 0) ≡ is_ascii_alphanumeric b
 unfolding shape_of bits
-one_shape b = by (is_ascii_alphabetic b) (is_ascii_alphanumeric b)
-  where
-    by : (a w : Bool) → not (cond (w && true) (cond a 0 1 + 2 * 1) 0 == 0) ≡ w
-    by true true = refl
-    by false true = refl
-    by true false = refl
-    by false false = refl
+one_shape b = grind arith
 
 -- a piece of one byte has a shape if that is a letter or digit
 pub single_shape : (p : Text) → is_one_byte p ≡ true
@@ -86,10 +79,10 @@ or_four a b c d k l m n =
 -- which are those of `true`
 apart : (a b c d : ℕ) → a < 256 → b < 256 → c < 256 → d < 256 → four a b c d ≡ 1702195828
     → (a ≡ code_t) × (b ≡ 114) × (c ≡ code_u) × (d ≡ 101)
-apart a b c d k l m n e = (omega arith, omega arith, omega arith, omega arith)
+apart a b c d k l m n e = grind arith
 
 letter_fits : (b : ℕ) → is_ascii_alphabetic b ≡ true → (b < 256) × (to_ascii_lowercase b < 256)
-letter_fits b h = (grind (arith, nat_tests), grind (arith, nat_tests))
+letter_fits b h = grind arith
 
 low_letter : (b : ℕ) → is_ascii_alphabetic b ≡ true → bit_or b 32 ≡ to_ascii_lowercase b
 low_letter b h = low_bit b (letter_is b h)
@@ -101,9 +94,7 @@ module _ (a b c d : ℕ) (k : is_ascii_alphabetic a ≡ true) (l : is_ascii_alph
 
   -- the number with bit 5 is that of the letters in lower case
   low_number : bit_or (four a b c d) 538976288 ≡ four (low a) (low b) (low c) (low d)
-  low_number =
-      or_four a b c d (letter_fits a k).0 (letter_fits b l).0 (letter_fits c m).0 (letter_fits d n).0
-      ∙ (λ j. four (low_letter a k j) (low_letter b l j) (low_letter c m j) (low_letter d n j))
+  low_number = grind (arith, or_four, letter_fits, low_letter)
 
   true_letters : (bit_or (four a b c d) 538976288 == 1702195828)
       ≡ is_true (low a ∷ low b ∷ low c ∷ low d ∷ [])
@@ -127,12 +118,7 @@ pub true_number : (p : Text) → IsWord Script p → (x : ℕ)
     → x ≡ four (get_or p 0 0) (get_or p 1 0) (get_or p 2 0) (get_or p 3 0)
     → (bit_or x 538976288 == 1702195828) ≡ is_true (lower p)
 unfolding is_word lower
-true_number (a ∷ b ∷ c ∷ d ∷ []) h x e =
-    let k = and_parts (is_ascii_alphabetic a) _ h in
-    let l = and_parts (is_ascii_alphabetic b) _ k.1 in
-    let m = and_parts (is_ascii_alphabetic c) _ l.1 in
-    ap (λ y. bit_or y 538976288 == 1702195828) e
-    ∙ true_letters a b c d k.0 l.0 m.0 (and_parts (is_ascii_alphabetic d) true m.1).0
+true_number (a ∷ b ∷ c ∷ d ∷ []) h x e = grind (arith, and_parts, true_letters)
 true_number [] h x e = absurd (cc)
 true_number (a ∷ []) h x e = absurd (cc)
 true_number (a ∷ b ∷ []) h x e = absurd (cc)

@@ -11,8 +11,9 @@ use Rattle.std.proofs.lemmas.List.{get_or-take, get_or-drop, take-take, take_all
 use Rattle.std.proofs.Math.Logic.{∥∥₁_elim}
 use Rattle.std.specs.Coded.{Coded-set, coded_ℕ}
 use Rattle.iloc_spec_grammar.specs.Syntax.{Text, Kind, Language, Script, Region, Variant, UnicodeKey}
-use Rattle.iloc_spec_grammar.specs.Syntax.{TransformKey, Attribute, PrivateSubtag, IsWord, Bounds, languages}
-use Rattle.iloc_spec_grammar.specs.Syntax.{is_one_byte, pieces, join, dashes, first_piece, IsHyphenFree}
+use Rattle.iloc_spec_grammar.specs.Syntax.{TransformKey, Attribute, PrivateSubtag, IsWord, Bounds}
+use Rattle.iloc_spec_grammar.specs.Syntax.{languages, is_one_byte, pieces, join, dashes, first_piece}
+use Rattle.iloc_spec_grammar.specs.Syntax.{IsHyphenFree}
 use Rattle.iloc_spec_grammar.proofs.PartTexts.{join-append, join-dashes, dashes-append}
 use Rattle.iloc_spec_grammar.proofs.PiecesLaws.{at_pieces, join-pieces, pieces-join, pieces_hyphen_free}
 use Rattle.iloc_spec_grammar.proofs.RawLaws.{languages_table}
@@ -29,7 +30,7 @@ short_word k ends p h = few_bytes k ends p h
 
 -- the same of each kind
 pub short_language : (p : Text) → IsWord (Language languages) p → IsShortPiece p
-short_language p h = few_bytes (Language languages) languages_table.most p h
+short_language p h = grind (arith, few_bytes, languages_table)
 
 pub short_script : (p : Text) → IsWord Script p → IsShortPiece p
 short_script p h = few_bytes Script tt p h
@@ -143,16 +144,14 @@ few_long l few = ∥∥₁_elim l.piece (Coded-set coded_ℕ _ _) (⊎_elim
 
 -- how long is what is left, and the text
 pub length_rest : (l : Cursor) → length (bytes_left l) ≡ l.remaining
-length_rest l =
-    length-take-le l.remaining (drop l.at l.window.now)
-    (omega (arith, length-drop l.at l.window.now, l.inside))
+length_rest l = grind (arith, length-take-le, length-drop)
 
 pub length_text : (l : Cursor) → length (whole_text l) ≡ l.at + l.remaining
-length_text l = length-take-le (l.at + l.remaining) l.window.now l.inside
+length_text l = grind (arith, length-take-le)
 
 -- the piece lies within the window
 pub piece_inside : (l : Cursor) → l.at + length (piece_left l) ≤ length l.window.now
-piece_inside l = omega (arith, l.inside, length_rest l, first_within (bytes_left l))
+piece_inside l = grind (arith, length_rest, first_within)
 
 -- the piece is among the window's bytes
 pub piece_bytes : (l : Cursor) →
@@ -165,7 +164,7 @@ piece_bytes l =
 -- the same by the length that is known
 pub short_bytes : (l : Cursor) → IsShortPiece (piece_left l)
     → take l.piece_length (drop l.at l.window.now) ≡ piece_left l
-short_bytes l short = ap (λ n. take n (drop l.at l.window.now)) (length_piece l short) ∙ piece_bytes l
+short_bytes l short = grind (arith, length_piece, piece_bytes)
 
 -- each of its bytes
 pub piece_byte : (l : Cursor) (i : ℕ) → i < length (piece_left l)
@@ -177,10 +176,7 @@ piece_byte l i early =
 
 -- a short piece that is as long as what is left is the last one
 pub last_piece : (l : Cursor) → l.piece_length ≡ l.remaining → IsShortPiece (piece_left l) → IsEnd l
-last_piece l end short = record {
-  all = end;
-  one = one_piece (bytes_left l) (omega (arith, length_piece l short, length_rest l));
-}
+last_piece l end short = grind (arith, one_piece, length_piece, length_rest)
 
 -- it is all that is left
 pub last_rest : {l : Cursor} → IsEnd l → bytes_left l ≡ piece_left l
@@ -209,13 +205,7 @@ spanned_both {t} {start} {middle} {end} {ps} {qs} s r =
 
 -- no piece has no bytes
 pub spanned_none : (l : Cursor) → IsLater l → IsSpanned (whole_text l) (l.at - 1) (l.at - 1) []
-spanned_none l later =
-    let none : (l.at - 1) - (l.at - 1) ≡ 0 = omega arith in
-    record {
-      ascends = omega arith;
-      inside = omega (arith, length_text l);
-      bytes = ap (λ n. take n (drop (l.at - 1) (whole_text l))) none;
-    }
+spanned_none l later = grind (arith, length_text)
 
 -- the hyphen before a piece, and what is left
 pub hyphen_rest : (l : Cursor) → IsLater l → drop (l.at - 1) (whole_text l) ≡ 45 ∷ bytes_left l
@@ -244,15 +234,7 @@ spanned_piece l later =
 -- all that is left
 pub spanned_all : (l : Cursor) → IsLater l
     → IsSpanned (whole_text l) (l.at - 1) (l.at + l.remaining) (pieces_left l)
-spanned_all l later =
-    let long : l.at + l.remaining - (l.at - 1) ≡ suc l.remaining = omega (arith, later.after) in
-    record {
-      ascends = omega arith;
-      inside = omega (arith, length_text l);
-      bytes = (λ j. take (long j) (hyphen_rest l later j))
-          ∙ ap (λ q. 45 ∷ q) (take_all l.remaining (bytes_left l) (omega (arith, length_rest l)))
-          ∙ sym (dashed (bytes_left l));
-    }
+spanned_all l later = grind (arith, length_text, hyphen_rest, take_all, length_rest, dashed)
 
 -- where the next piece begins
 pub next_at : (l k : Cursor) → IsNextPiece l k → k.at ≡ l.at + length (piece_left l) + 1
@@ -270,36 +252,19 @@ next_at l k next =
 pub spanned_next : {l k : Cursor} {start : ℕ} {ps : List Text} → IsLater l → IsNextPiece l k
     → IsSpanned (whole_text l) start (l.at - 1) ps
     → IsSpanned (whole_text l) start (k.at - 1) (ps ++ (piece_left l ∷ []))
-spanned_next {l} {k} {start} {ps} later next s =
-    let end : l.at + length (piece_left l) ≡ k.at - 1 = omega (arith, next_at l k next) in
-    subst (λ (n : ℕ). IsSpanned (whole_text l) start n (ps ++ (piece_left l ∷ []))) end
-    (spanned_both s (spanned_piece l later))
+spanned_next h k e = grind (arith, next_at, spanned_both, spanned_piece)
 
 -- one piece more, the last one
 pub spanned_last : {l : Cursor} {start : ℕ} {ps : List Text} → IsLater l → IsEnd l
     → IsSpanned (whole_text l) start (l.at - 1) ps
     → IsSpanned (whole_text l) start (l.at + l.piece_length) (ps ++ (piece_left l ∷ []))
-spanned_last {l} {start} {ps} later end s =
-    let long : l.at + length (piece_left l) ≡ l.at + l.piece_length =
-    omega (arith, end.all, length_rest l, ap length (last_rest end)) in
-    subst (λ (n : ℕ). IsSpanned (whole_text l) start n (ps ++ (piece_left l ∷ []))) long
-    (spanned_both s (spanned_piece l later))
+spanned_last h k e = grind (arith, length_rest, last_rest, spanned_both, spanned_piece)
 
 -- ---- pieces that are passed
 
 -- no piece is passed
 pub past_none : (l : Cursor) → IsLater l → IsPast l l []
-past_none l later = record {
-  later = later;
-  less = omega arith;
-  window = refl;
-  end = refl;
-  text = refl;
-  pieces = refl;
-  spanned = λ _ start qs s. subst (λ (ps : List Text). IsSpanned (whole_text l) start (l.at - 1) ps)
-      (sym (append-nil qs)) s;
-  rest = λ some. absurd (some refl);
-}
+past_none l later = grind (arith, append-nil)
 
 -- l need not be later
 pub past_first : {l k : Cursor} → IsShortPiece (piece_left l) → IsNextPiece l k →
@@ -345,7 +310,7 @@ past_next p short next = past_past p (past_first short next)
 -- all the pieces, where the last one is reached
 pub pieces_end : {l m : Cursor} {ps : List Text} → IsPast l m ps → IsEnd m
     → pieces_left l ≡ ps ++ (piece_left m ∷ [])
-pieces_end {l} {m} {ps} p end = p.pieces ∙ ap (λ qs. ps ++ qs) end.one
+pieces_end h k = grind arith
 
 -- pieces are passed, and the last one is reached
 pub spanned_end : {l m : Cursor} {start : ℕ} {ps qs : List Text} → IsPast l m ps → IsEnd m → IsLater l

@@ -1,8 +1,8 @@
 -- From marks to the first piece: how long it is, and its shape by the lowest bit that is set.
 use Rattle.std.proofs.Common.{◌≡◌, ℕ, zero, suc, ◌+◌, ◌-◌, ◌*◌, ◌^◌, ◌<◌, ◌≤◌, Bool, true, false, cond, not}
-use Rattle.std.proofs.Common.{◌&&◌, List, [], ◌∷◌, length, map, take, bit_and, refl, sym, ap, ◌∙◌, subst}
+use Rattle.std.proofs.Common.{◌&&◌, [], ◌∷◌, length, map, take, bit_and, refl, sym, ap, ◌∙◌, subst}
 use Rattle.std.proofs.Common.{arith, pow-suc, ◌↔◌}
-use Rattle.std.specs.List.{prefix_len, slice_split, onto_first}
+use Rattle.std.specs.List.{prefix_len, slice_split}
 use Rattle.std.specs.Int.Bits.{bit_xor, xor_self}
 use Rattle.std.specs.Char.{is_ascii_alphabetic, is_ascii_alphanumeric}
 use Rattle.std.proofs.lemmas.Bool.{false_from_ne_true}
@@ -29,23 +29,15 @@ first_by : (a : Bool) (c k : ℕ) (t : Text) → is_hyphen c ≡ a
     → first_piece (slice_split is_hyphen t) ≡ take (before (take k (closed t))) (take k (closed t)))
     → first_piece (slice_split is_hyphen (c ∷ t))
     ≡ take (cond (not a) (1 + before (take k (closed t))) 0) (c ∷ take k (closed t))
-first_by true c k t e some h = ap first_piece (slice_split-cons_yes is_hyphen c t e)
-first_by false c k t e some h =
-    let more : 1 + before (take k (closed t)) ≡ suc (before (take k (closed t))) = omega arith in
-    ap first_piece (slice_split-cons_no is_hyphen c t e) ∙ onto (slice_split is_hyphen t)
-    ∙ ap (λ p. c ∷ p) (h (omega arith))
-    ∙ ap (λ n. take n (c ∷ take k (closed t))) (sym more)
-  where
-    onto : (ps : List Text) → first_piece (onto_first c ps) ≡ c ∷ first_piece ps
-    onto [] = refl
-    onto (p ∷ ps) = refl
+first_by true c k t e some h = grind (arith, slice_split-cons_yes)
+first_by false c k t e some h = grind (arith, slice_split-cons_no)
 
 pub first_marked : (rest : Text) (k : ℕ) → 0 < mask_l (map is_hyphen (take k (closed rest)))
     → first_piece (pieces rest) ≡ take (before (take k (closed rest))) (take k (closed rest))
 unfolding pieces
 first_marked rest zero some = absurd (omega arith)
 first_marked [] (suc k) some = refl
-first_marked (c ∷ t) (suc k) some = first_by (is_hyphen c) c k t refl some (first_marked t k)
+first_marked (c ∷ t) (suc k) some = grind (arith, first_by, first_marked t k)
 
 -- where none is marked, it is longer
 pub first_unmarked : (rest : Text) (k : ℕ) → mask_l (map is_hyphen (take k (closed rest))) ≡ 0
@@ -53,34 +45,15 @@ pub first_unmarked : (rest : Text) (k : ℕ) → mask_l (map is_hyphen (take k (
 unfolding pieces
 first_unmarked rest zero none = omega arith
 first_unmarked [] (suc k) none = absurd (omega arith)
-first_unmarked (c ∷ t) (suc k) none = by (is_hyphen c) refl none (first_unmarked t k)
-  where
-    onto : (ps : List Text) → length (first_piece (onto_first c ps)) ≡ suc (length (first_piece ps))
-    onto [] = refl
-    onto (p ∷ ps) = refl
-
-    by : (a : Bool) → is_hyphen c ≡ a → cond a 1 0 + 2 * mask_l (map is_hyphen (take k (closed t))) ≡ 0
-        → (mask_l (map is_hyphen (take k (closed t))) ≡ 0
-        → k ≤ length (first_piece (slice_split is_hyphen t)))
-        → suc k ≤ length (first_piece (slice_split is_hyphen (c ∷ t)))
-    by true e h later = absurd (omega arith)
-    by false e h later =
-        let next : k ≤ length (first_piece (slice_split is_hyphen t)) = later (omega arith) in
-        omega (
-          arith,
-          ap (λ ps. length (first_piece ps)) (slice_split-cons_no is_hyphen c t e)
-              ∙ onto (slice_split is_hyphen t),
-        )
+first_unmarked (c ∷ t) (suc k) none = grind (arith, slice_split-cons_no, first_unmarked t k)
 
 -- where one is marked, one stands among the bytes
 some_by : (b : Bool) (m n k : ℕ) → 0 < cond b 1 0 + 2 * m → (0 < m → n < k) → cond (not b) (1 + n) 0 < suc k
-some_by true m n k l h = omega arith
-some_by false m n k l h = let less : n < k = h (omega arith) in omega arith
+some_by b m n k h e = grind arith
 
 pub some_marked : (v : Text) → 0 < mask_l (map is_hyphen v) → before v < length v
 some_marked [] l = absurd (omega arith)
-some_marked (b ∷ v) l =
-    some_by (is_hyphen b) (mask_l (map is_hyphen v)) (before v) (length v) l (some_marked v)
+some_marked (b ∷ v) l = grind (arith, some_by, some_marked v)
 
 -- ---- the bits up to the lowest that is set
 
@@ -113,8 +86,7 @@ lowest_by false c m n e l h =
 lowest : (v : Text) → 0 < mask_l (map is_hyphen v)
     → bit_xor (mask_l (map is_hyphen v)) (mask_l (map is_hyphen v) - 1) ≡ 2 ^ suc (before v) - 1
 lowest [] l = absurd (omega arith)
-lowest (b ∷ v) l =
-    lowest_by (is_hyphen b) (cond (is_hyphen b) 1 0) (mask_l (map is_hyphen v)) (before v) refl l (lowest v)
+lowest (b ∷ v) l = grind (arith, lowest_by, lowest v)
 
 -- ---- they mark the piece and its hyphen
 
@@ -122,8 +94,7 @@ hyphen_no_letter : (b : ℕ) → is_hyphen b ≡ true → is_ascii_alphabetic b 
 hyphen_no_letter b h = grind (arith, nat_tests)
 
 some_later : (a : Bool) (m : ℕ) → 0 < cond a 1 0 + 2 * m → a ≡ false → 0 < m
-some_later true m l e = absurd (cc)
-some_later false m l e = omega arith
+some_later a m h k = grind arith
 
 -- the hyphen is the bit above the bits of the piece
 ended_by : (a : Bool) (b : ℕ) (v : Text) → is_hyphen b ≡ a
@@ -131,16 +102,7 @@ ended_by : (a : Bool) (b : ℕ) (v : Text) → is_hyphen b ≡ a
     → mask_l (map no_letter (take (suc (cond (not a) (1 + before v) 0)) (b ∷ v)))
     ≡ bits (take (cond (not a) (1 + before v) 0) (b ∷ v))
 unfolding bits
-ended_by true b v e h = ap (λ (c : Bool). cond (not c) 1 0 + 2 * 0) (hyphen_no_letter b e)
-ended_by false b v e h =
-    let next : 1 + before v ≡ suc (before v) = omega arith in
-    ap (λ k. mask_l (map no_letter (take (suc k) (b ∷ v)))) next
-    ∙ letter_by (is_ascii_alphabetic b) _ _ (h refl)
-    ∙ sym (ap (λ k. bits (take k (b ∷ v))) next)
-  where
-    letter_by : (a : Bool) (m n : ℕ) → m ≡ n → cond (not a) 1 0 + 2 * m ≡ cond a 0 1 + 2 * n
-    letter_by true m n e = ap (λ k. 0 + 2 * k) e
-    letter_by false m n e = ap (λ k. 1 + 2 * k) e
+ended_by a b v h k = grind (arith, hyphen_no_letter)
 
 ended : (v : Text) → 0 < mask_l (map is_hyphen v)
     → mask_l (map no_letter (take (suc (before v)) v)) ≡ bits (take (before v) v)
@@ -163,7 +125,7 @@ clear_by : (a : Bool) (b : ℕ) (v : Text) → is_hyphen b ≡ a
     → (a ≡ false → (odd_in v ≡ 0) ↔ (letters_or_digits (take (before v) v) ≡ true))
     → (mask_l (map is_odd (take (suc (cond (not a) (1 + before v) 0)) (b ∷ v))) ≡ 0)
     ↔ (letters_or_digits (take (cond (not a) (1 + before v) 0) (b ∷ v)) ≡ true)
-clear_by true b v e h = (λ _. refl, λ _. ap (λ (c : Bool). cond c 1 0 + 2 * 0) (hyphen_not_odd b e))
+clear_by true b v e h = grind (arith, hyphen_not_odd)
 clear_by false b v e h =
     let next : 1 + before v ≡ suc (before v) = omega arith in
     subst (λ (k : ℕ). (mask_l (map is_odd (take (suc k) (b ∷ v))) ≡ 0)
@@ -187,13 +149,11 @@ clear (b ∷ v) l =
 
 module _ (v : Text) (ends : ℕ) (are : ends ≡ mask_l (map is_hyphen v)) (some : 0 < ends) where
   piece : bit_xor ends (ends - 1) ≡ 2 ^ suc (before v) - 1
-  piece = (λ j. bit_xor (are j) (are j - 1)) ∙ lowest v (omega (arith, are))
+  piece = grind (arith, lowest)
 
   within : (q : ℕ → Bool) (x : ℕ) → x ≡ mask_l (map q v)
       → bit_and x (bit_xor ends (ends - 1)) ≡ mask_l (map q (take (suc (before v)) v))
-  within q x marks =
-      (λ j. bit_and (marks j) (piece j)) ∙ and_mask (mask_l (map q v)) (suc (before v))
-      ∙ low q (suc (before v)) v
+  within q x marks = grind (arith, piece, and_mask, low)
 
   -- the shape of a piece with another byte
   pub odd_shape : (odd : ℕ) → odd ≡ mask_l (map is_odd v) → (bit_and odd (bit_xor ends (ends - 1)) ≡ 0 → ⊥)

@@ -1,7 +1,6 @@
 -- From the first piece of a line to what stands at its front.
-use Rattle.std.proofs.Common.{◌≡◌, ◌≢◌, ℕ, zero, suc, ◌+◌, ◌-◌, ◌<◌, ◌≤◌, Bool, true, false, cond, not}
-use Rattle.std.proofs.Common.{List, [], ◌∷◌, length, get_or, take, drop, refl, sym, ap, ◌∙◌, subst}
-use Rattle.std.proofs.Common.{arith, inl, inr}
+use Rattle.std.proofs.Common.{◌≡◌, ◌≢◌, ℕ, zero, suc, ◌+◌, ◌-◌, ◌<◌, ◌≤◌, Bool, true, false, not}
+use Rattle.std.proofs.Common.{List, [], ◌∷◌, length, get_or, take, drop, refl, sym, ap, ◌∙◌, subst, arith}
 use Rattle.std.specs.List.{slice_split, onto_first}
 use Rattle.std.proofs.lemmas.Bool.{cases_lt, cases_Bool}
 use Rattle.std.proofs.lemmas.List.{get_or-take, length-drop, length-take-le, take-take, drop-take}
@@ -9,8 +8,7 @@ use Rattle.std.proofs.lemmas.List.Splits.{slice_split-cons_yes, slice_split-cons
 use Rattle.iloc_spec_grammar.specs.Syntax.{Text, pieces, first_piece, Kind, Attribute, Language}
 use Rattle.iloc_spec_grammar.specs.Syntax.{UnicodeKey, is_word, IsWord, is_true, lower, languages}
 use Rattle.iloc_spec_grammar.specs.Meaning.{normal_values}
-use Rattle.iloc_spec_grammar.proofs.WordsLaws.{length-language}
-use Rattle.iloc_spec_grammar.proofs.WordsLaws.{length-attribute, length-unicode_key}
+use Rattle.iloc_spec_grammar.proofs.WordsLaws.{length-language, length-attribute, length-unicode_key}
 use Rattle.iloc_spec_grammar.proofs.RawLaws.{languages_table}
 use Rattle.iloc_pieces.specs.Run.{IsRun, is_hyphen, fails}
 use Rattle.iloc_pieces.specs.Front.{IsFirst}
@@ -34,12 +32,12 @@ later n c t h i l = h (suc i) (omega arith)
 
 pub go_on : (n c : ℕ) (t : Text) → Free (suc n) (c ∷ t) →
     slice_split is_hyphen (c ∷ t) ≡ onto_first c (slice_split is_hyphen t)
-go_on n c t h = slice_split-cons_no is_hyphen c t (is_no _ (h 0 (omega arith)))
+go_on n c t h = grind (arith, slice_split-cons_no, is_no)
 
 cut_at : (k : ℕ) (t : Text) → k < length t → Free k t → fails is_hyphen (get_or t k 0) ≡ false
     → slice_split is_hyphen t ≡ take k t ∷ slice_split is_hyphen (drop (suc k) t)
 cut_at zero [] l h e = absurd (omega arith)
-cut_at zero (c ∷ t) l h e = slice_split-cons_yes is_hyphen c t (is_yes _ e)
+cut_at zero (c ∷ t) l h e = grind (arith, slice_split-cons_yes, is_yes)
 cut_at (suc k) [] l h e = absurd (omega arith)
 cut_at (suc k) (c ∷ t) l h e = go_on k c t h ∙ ap (onto_first c) (cut_at k t (omega arith) (later k c t h) e)
 
@@ -98,14 +96,14 @@ first_is w len k n wide inside r few less least =
 
 pub values_true : (p : Text) (ps : List Text) → is_true (lower p) ≡ true →
     normal_values (p ∷ ps) ≡ normal_values ps
-values_true p ps e = ap (λ (b : Bool). cond (not b) (lower p ∷ normal_values ps) (normal_values ps)) e
+values_true p ps e = grind arith
 
 -- no word of the kind has more than eight bytes
 abbrev pub IsShort : Kind → Type 0
 IsShort k = (p : Text) → IsWord k p → length p ≤ 8
 
 pub short_language : IsShort (Language languages)
-short_language p h = languages_table.most (length p) (length-language languages p h)
+short_language p h = grind (arith, languages_table, length-language)
 
 pub short_key : IsShort UnicodeKey
 short_key p h = omega (arith, length-unicode_key p h)
@@ -114,10 +112,7 @@ pub short_attribute : IsShort Attribute
 short_attribute p h = (length-attribute p h).1
 
 pub too_long : (k : Kind) → IsShort k → (p : Text) → 8 < length p → is_word k p ≡ false
-too_long k short p more = elim (cases_Bool (is_word k p)) [
-  | inl fits ↦ absurd (omega (arith, short p fits))
-  | inr fails ↦ fails
-]
+too_long k short p more = grind (arith, cases_Bool)
 
 -- what follows a byte of the line, in the line and in the rest of the window
 pub later_bytes : (w : Text) (len n : ℕ) → len ≤ length w → n < len
@@ -133,9 +128,7 @@ later_bytes w len n inside less =
 -- behind its first bytes a window has the rest of the text
 pub behind : (w : Text) (k : ℕ) → k + 16 ≤ length w →
     length (take (length w - k) (drop k w)) - 16 ≡ length w - 16 - k
-behind w k inside =
-    let dropped : length (drop k w) ≡ length w - k = length-drop k w in
-    omega (arith, dropped, length-take-le (length w - k) (drop k w) (omega (arith, dropped)))
+behind w k inside = grind (arith, length-drop, length-take-le)
 
 module _ (w : Text) (len n : ℕ) (room : len + 16 ≤ length w) (first : IsFirst (take len w) n) where
   abbrev text : Text
@@ -156,43 +149,27 @@ module _ (w : Text) (len n : ℕ) (room : len + 16 ≤ length w) (first : IsFirs
 
   -- a short first piece is the first n bytes
   pub short_first : n < 16 → first_piece (pieces text) ≡ take n w
-  short_first short = elim (cases_lt n len) [
-    | inl less ↦ ap first_piece (first.cut (omega (arith, whole)) short) ∙ front_same
-    | inr more ↦
-        let same : n ≡ len = omega (arith, inside) in
-        ap first_piece (first.last short (omega (arith, whole))) ∙ ap (λ (m : ℕ). take m w) (sym same)
-  ]
+  short_first short = grind (arith, cases_lt, whole, front_same, inside)
 
   -- the first bytes are a word where the first piece is
   pub word_of_first : (k : Kind) → IsShort k → is_word k (first_piece (pieces text)) ≡ is_word k (take n w)
-  word_of_first k short = elim (cases_lt n 16) [
-    | inl less ↦ ap (is_word k) (short_first less)
-    | inr more ↦
-        let sixteen : n ≡ 16 = omega (arith, first.few) in
-        let piece : 8 < length (first_piece (pieces text)) = omega (arith, first.long sixteen) in
-        let bytes : 8 < length (take n w) = omega (arith, length-take-le n w (omega (arith, inside))) in
-        too_long k short (first_piece (pieces text)) piece ∙ sym (too_long k short (take n w) bytes)
-  ]
+  word_of_first k short = grind (arith, cases_lt, short_first, length-take-le, inside, too_long)
 
   pub word_is_short : (k : Kind) → IsShort k → is_word k (take n w) ≡ true → n < 16
-  word_is_short k short fits =
-      omega (arith, short (take n w) fits, length-take-le n w (omega (arith, inside)))
+  word_is_short k short fits = grind (arith, length-take-le, inside)
 
   -- a short piece that doesn't end the line: the other pieces are those of what follows its hyphen
   pub after_short : n < 16 → n ≢ len → pieces text ≡ take n w ∷ pieces next
-  after_short few more =
-      let less : n < len = omega (arith, inside) in
-      let rest : drop (suc n) (take len w) ≡ next = later_bytes w len n (omega arith) less in
-      first.cut (omega (arith, whole)) few ∙ (λ j. front_same j ∷ pieces (rest j))
+  after_short few more = grind (arith, inside, later_bytes, whole, front_same)
 
   pub after_word : (k : Kind) → IsShort k → is_word k (take n w) ≡ true → n ≢ len →
       pieces text ≡ take n w ∷ pieces next
-  after_word k short fits more = after_short (word_is_short k short fits) more
+  after_word k short fits more = grind (arith, after_short, word_is_short)
 
   -- a short piece, and a word, that ends the line
   pub whole_short : n < 16 → n ≡ len → pieces text ≡ take n w ∷ []
-  whole_short few end = first.last few (omega (arith, whole)) ∙ (λ j. take (sym end j) w ∷ [])
+  whole_short few end = grind (arith, whole)
 
   pub whole_word : (k : Kind) → IsShort k → is_word k (take n w) ≡ true → n ≡ len →
       pieces text ≡ take n w ∷ []
-  whole_word k short fits end = whole_short (word_is_short k short fits) end
+  whole_word k short fits end = grind (arith, whole_short, word_is_short)

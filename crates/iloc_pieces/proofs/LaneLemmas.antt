@@ -25,7 +25,7 @@ marked_lane : (q : ℕ → Bool) (v : Text) (i : ℕ) → get_or (map q v) i fal
     (q (get_or v i 0) ≡ true) × (i < length v)
 marked_lane q [] i e = absurd (cc)
 marked_lane q (b ∷ v) zero e = (e, omega arith)
-marked_lane q (b ∷ v) (suc i) e = let t = marked_lane q v i e in (t.0, omega (arith, t.1))
+marked_lane q (b ∷ v) (suc i) e = grind (arith, marked_lane q v i e)
 
 is_set : (b : Bool) → ◌≡◌ {A = ℕ} (cond b 1 0) 1 → b ≡ true
 is_set true e = refl
@@ -77,9 +77,7 @@ module _ (v : Text) (long : length v ≡ 16) (a : ℕ) (r z : Text) (is : z ≡ 
 
   pub beside : {X : Type 0} (h : ℕ → ℕ → X) (d : X) (i : ℕ) → i < 16 →
       get_or (zip2 h v z) i d ≡ h (get_or v i 0) (get_or r (a + i) 0)
-  beside h d i l =
-      get_or-zip2 h v z i 0 0 d (omega (arith, long)) (omega (arith, wide))
-      ∙ ap (h (get_or v i 0)) (ap (λ y. get_or y i 0) is ∙ part_at a r i l)
+  beside h d i l = grind (arith, get_or-zip2, part_at)
 
   -- if all lanes of a comparison are set, no lane is greater
   pub none_greater : IsTrue

@@ -70,9 +70,7 @@ short_bytes xs h few = let all : length xs + (8 - length xs) ≡ 8 = omega arith
 
 pub short_text : (xs : Text) (low : ℕ) (zs : Text) → Bytes xs → length xs ≤ 8 → low ≡ number xs →
     take (length xs) (bytes 8 low ++ zs) ≡ xs
-short_text xs low zs h few e =
-    ap (λ l. take (length xs) (l ++ zs)) (ap (bytes 8) e ∙ short_bytes xs h few)
-    ∙ ap (take (length xs)) (append_assoc xs (replicate (8 - length xs) 0) zs) ∙ front xs _
+short_text xs low zs h few e = grind (arith, short_bytes, append_assoc, front)
 
 pub long_text : (xs : Text) (low high : ℕ) → Bytes xs → 8 ≤ length xs → length xs ≤ 16 →
     low ≡ number (take 8 xs) → high ≡ number (drop 8 xs) → take (length xs) (bytes 8 low ++ bytes 8 high) ≡ xs

@@ -1,18 +1,16 @@
 -- The piece that marks tell, and the next one.
-use Rattle.std.proofs.Common.{◌≡◌, ◌≢◌, ℕ, suc, ◌+◌, ◌-◌, ◌<◌, ◌≤◌, [], ◌∷◌, ◌++◌, length, get_or, take, drop}
-use Rattle.std.proofs.Common.{refl, sym, ap, ◌∙◌, subst, arith, inl, inr, append-nil, ⊎_elim}
-use Rattle.std.proofs.lemmas.List.{drop-drop, drop-take, get_or-drop, get_or-take, length-append, length-take}
-use Rattle.std.proofs.lemmas.List.{length-take-le, drop-append-le}
+use Rattle.std.proofs.Common.{◌≡◌, ◌≢◌, ℕ, ◌+◌, ◌-◌, ◌<◌, ◌≤◌, [], ◌∷◌, ◌++◌, length, get_or, take}
+use Rattle.std.proofs.Common.{drop, refl, sym, ap, ◌∙◌, subst, arith, append-nil, ⊎_elim}
+use Rattle.std.proofs.lemmas.List.{drop-drop, drop-take, get_or-drop, get_or-take, length-append}
+use Rattle.std.proofs.lemmas.List.{length-take, length-take-le, drop-append-le}
 use Rattle.std.proofs.lemmas.Simd.{trailing_mask_l}
 use Rattle.std.proofs.Math.Logic.{∥∥₁_map}
 use lib.Count.{count_trailing_zeros}
 use Rattle.iloc_spec_grammar.specs.Syntax.{Text, pieces, first_piece}
 use Rattle.iloc_spec_grammar.proofs.PartTexts.{join-dashes}
-use Rattle.iloc_pieces.specs.Cursor.{IsNextPiece, IsShortPiece, piece_left}
-use Rattle.iloc_pieces.specs.Cursor.{pieces_left, bytes_left}
+use Rattle.iloc_pieces.specs.Cursor.{IsNextPiece, IsShortPiece, piece_left, pieces_left, bytes_left}
 use Rattle.iloc_pieces.specs.Piece.{HasShape, IsLong}
 use Rattle.iloc_pieces.specs.Marks.{AreMarks, AreKnown, AreMarksSeen, closed}
-use Rattle.iloc_pieces.specs.Run.{is_hyphen}
 use Rattle.iloc_pieces.specs.Shape.{shape_of}
 use Rattle.iloc_pieces.specs.declared.place.Cursor.{Cursor}
 use Rattle.iloc_pieces.specs.declared.marks.Marks.{Marks}
@@ -21,21 +19,11 @@ use Rattle.iloc_pieces.proofs.CursorLemmas.{first_within, first_cut, cut_after, 
 
 -- what is known is seen
 pub seen_known : {rest : Text} {m : Marks} → AreKnown rest m → AreMarksSeen rest m
-seen_known k = record { known = k.known; few = k.few; enough = λ _. k.enough; marks = k.marks }
+seen_known k = grind arith
 
 -- where no hyphen is marked, the piece is long
 pub long_piece : {rest : Text} {m : Marks} → AreMarksSeen rest m → m.ends ≡ 0 → IsLong rest 16 0
-long_piece {rest} {m} s none = record {
-  most = refl;
-  long = elim (s.enough none) [
-    | inl many ↦ omega (arith, reach)
-    | inr all ↦ absurd (omega (arith, reach, first_within rest, length-append rest (45 ∷ [])))
-  ];
-  shape = refl;
-}
-  where
-    reach : s.known ≤ length (first_piece (pieces rest))
-    reach = first_unmarked rest s.known (sym s.marks.ends ∙ none)
+long_piece h k = grind (arith, first_within, length-append, first_unmarked)
 
 module _ {rest : Text} {m : Marks} (s : AreMarksSeen rest m) (some : m.ends ≢ 0) where
   abbrev seen : Text
@@ -45,15 +33,10 @@ module _ {rest : Text} {m : Marks} (s : AreMarksSeen rest m) (some : m.ends ≢ 
   above = omega arith
 
   inside : before seen < s.known
-  inside =
-      let l : before seen < length seen = some_marked seen (omega (arith, s.marks.ends)) in
-      omega (arith, length-take s.known (closed rest))
+  inside = grind (arith, before, some_marked, length-take)
 
   zeros : count_trailing_zeros 64 m.ends ≡ before seen
-  zeros =
-      let few : length seen ≤ 64 = omega (arith, length-take s.known (closed rest), s.few) in
-      ap (count_trailing_zeros 64) s.marks.ends
-      ∙ trailing_mask_l is_hyphen 64 seen few (omega (arith, s.marks.ends))
+  zeros = grind (arith, length-take, trailing_mask_l)
 
   first : first_piece (pieces rest) ≡ take (before seen) seen
   first = first_marked rest s.known (omega (arith, s.marks.ends))
@@ -61,19 +44,7 @@ module _ {rest : Text} {m : Marks} (s : AreMarksSeen rest m) (some : m.ends ≢ 
   -- a piece whose end is marked
   pub short_piece : (shape : ℕ) → shape ≡ shape_of (take (before seen) seen)
       → HasShape rest (count_trailing_zeros 64 m.ends) shape m
-  short_piece shape is =
-      let l : before seen < length seen = some_marked seen (omega (arith, s.marks.ends)) in
-      let long : length (first_piece (pieces rest)) ≡ before seen =
-      ap length first ∙ length-take-le (before seen) seen (omega arith) in
-      record {
-        few = omega (arith, inside, zeros, s.few);
-        long = zeros ∙ sym long;
-        shape = is ∙ ap shape_of (sym first);
-        known = s.known;
-        enough = omega (arith, inside, zeros);
-        most = s.few;
-        marks = s.marks;
-      }
+  short_piece shape is = grind (arith, before, some_marked, first, length-take-le, inside, zeros)
 
 seam : (p q : Text) → get_or (p ++ 45 ∷ q) (length p) 0 ≡ 45
 seam [] q = refl
@@ -91,7 +62,7 @@ module _ (l : Cursor) (short : IsShortPiece (piece_left l)) (more : l.piece_leng
 
   -- the text goes on behind the piece and its hyphen
   pub not_last : past ≤ l.remaining
-  not_last = omega (arith, length_piece l short, length_rest l, first_within (bytes_left l))
+  not_last = grind (arith, length_piece, length_rest, first_within)
 
   after_is : drop past (bytes_left l) ≡ after
   after_is =
@@ -101,10 +72,7 @@ module _ (l : Cursor) (short : IsShortPiece (piece_left l)) (more : l.piece_leng
       ∙ ap (take (l.remaining - past)) (drop-drop past l.at l.window.now)
 
   cut : pieces_left l ≡ piece_left l ∷ pieces after
-  cut =
-      let long : suc (length (piece_left l)) ≡ past = omega (arith, length_piece l short) in
-      first_cut (bytes_left l) (omega (arith, length_piece l short, length_rest l, not_last))
-      ∙ ap (λ t. piece_left l ∷ pieces t) (ap (λ n. drop n (bytes_left l)) long ∙ after_is)
+  cut = grind (arith, length_piece, first_cut, length_rest, not_last, after_is)
 
   text : bytes_left l ≡ piece_left l ++ 45 ∷ after
   text = cut_after (piece_left l ∷ []) (bytes_left l) after cut (λ e. cc)

@@ -1,7 +1,7 @@
 -- Bytes as bits: of lanes, of the first and the later ones, and of one that is added.
 use Rattle.std.proofs.Common.{◌≡◌, ℕ, zero, suc, ◌+◌, ◌-◌, ◌*◌, ◌/◌, ◌%◌, ◌^◌, ◌<◌, ◌≤◌, Bool, true, false}
 use Rattle.std.proofs.Common.{cond, [], ◌∷◌, ◌++◌, length, map, take, drop, bit_and}
-use Rattle.std.proofs.Common.{bit_or, refl, sym, ap, subst, ◌∙◌, arith, pow-suc}
+use Rattle.std.proofs.Common.{bit_or, ◌∙◌, arith, pow-suc}
 use Rattle.std.specs.Int.Bits.{or_zero_l, or_zero_r}
 use Rattle.std.proofs.Math.Nat.{mod-one, zero-mod, div-one, zero-div, div-div-eq-div-mul}
 use Rattle.std.proofs.lemmas.List.{length-map, length-take-le}
@@ -9,8 +9,7 @@ use Rattle.std.proofs.lemmas.Nat.{and_mask, or_block, pow_pos}
 use Rattle.std.proofs.lemmas.Simd.{mask_l-lt}
 use lib.Lanes.{mask_l}
 use Rattle.iloc_spec_grammar.specs.Syntax.{Text}
-use Rattle.iloc_pieces.specs.Marks.{AreMarks, closed, no_letter, is_odd}
-use Rattle.iloc_pieces.specs.Run.{is_hyphen}
+use Rattle.iloc_pieces.specs.Marks.{AreMarks, closed}
 use Rattle.iloc_pieces.specs.declared.marks.Marks.{Marks}
 use Rattle.iloc_pieces.proofs.SameLemmas.{low_bit, bit as bit_lt}
 
@@ -20,57 +19,35 @@ use Rattle.iloc_pieces.proofs.SameLemmas.{low_bit, bit as bit_lt}
 pub low : (q : ℕ → Bool) (n : ℕ) (v : Text) → mask_l (map q v) % 2 ^ n ≡ mask_l (map q (take n v))
 low q zero v = mod-one (mask_l (map q v))
 low q (suc n) [] = zero-mod (2 ^ suc n)
-low q (suc n) (b ∷ v) =
-    ap (λ k. (cond (q b) 1 0 + 2 * mask_l (map q v)) % k) (pow-suc 2 n)
-    ∙ low_bit (cond (q b) 1 0) (mask_l (map q v)) (2 ^ n) (bit_lt (q b)) (pow_pos n)
-    ∙ ap (λ m. cond (q b) 1 0 + 2 * m) (low q n v)
+low q (suc n) (b ∷ v) = grind (arith, pow-suc, low_bit, bit_lt, pow_pos, low q n v)
 
 pub masked : (q : ℕ → Bool) (n x e : ℕ) (v : Text) → e ≡ 2 ^ n → x ≡ mask_l (map q v)
     → bit_and x (e - 1) ≡ mask_l (map q (take n v))
-masked q n x e v h marks = (λ j. bit_and (marks j) (h j - 1)) ∙ and_mask (mask_l (map q v)) n ∙ low q n v
+masked q n x e v h marks = grind (arith, and_mask, low)
 
 -- ---- the later bits
 
 one_less : (a m k : ℕ) → a < 2 → (a + 2 * m) / (2 * k) ≡ m / k
-one_less a m k small =
-    let half : (a + 2 * m) / 2 ≡ m = omega arith in
-    sym (div-div-eq-div-mul (a + 2 * m) 2 k) ∙ ap (λ n. n / k) half
+one_less a m k small = grind (arith, div-div-eq-div-mul)
 
 -- they mark what follows
 high : (q : ℕ → Bool) (n : ℕ) (v : Text) → mask_l (map q v) / 2 ^ n ≡ mask_l (map q (drop n v))
 high q zero v = div-one (mask_l (map q v))
 high q (suc n) [] = zero-div (2 ^ suc n)
-high q (suc n) (b ∷ v) =
-    let power : 2 ^ suc n ≡ 2 * 2 ^ n = omega (arith, pow-suc 2 n) in
-    ap (λ k. (cond (q b) 1 0 + 2 * mask_l (map q v)) / k) power
-    ∙ one_less (cond (q b) 1 0) (mask_l (map q v)) (2 ^ n) (bit_lt (q b)) ∙ high q n v
+high q (suc n) (b ∷ v) = grind (arith, pow-suc, one_less, bit_lt, high q n v)
 
 -- so do the masks of the three tests
 pub later_marks : (v : Text) (n : ℕ) (m r : Marks) → AreMarks v m → r.ends ≡ m.ends / 2 ^ n
     → r.others ≡ m.others / 2 ^ n → r.odd ≡ m.odd / 2 ^ n → AreMarks (drop n v) r
-later_marks v n m r are h o d = record {
-  ends = h ∙ ap (λ k. k / 2 ^ n) are.ends ∙ high is_hyphen n v;
-  others = o ∙ ap (λ k. k / 2 ^ n) are.others ∙ high no_letter n v;
-  odd = d ∙ ap (λ k. k / 2 ^ n) are.odd ∙ high is_odd n v;
-}
+later_marks v n m r are h o d = grind (arith, high)
 
 -- ---- a hyphen behind the first bytes
 
 -- the bit of a byte that is added
 added : (q : ℕ → Bool) (p : Text) (b : ℕ)
     → mask_l (map q (p ++ (b ∷ []))) ≡ mask_l (map q p) + cond (q b) (2 ^ length p) 0
-added q [] b = one (q b)
-  where
-    one : (a : Bool) → cond a 1 0 + 2 * 0 ≡ 0 + cond a 1 0
-    one true = refl
-    one false = refl
-added q (c ∷ p) b =
-    ap (λ m. cond (q c) 1 0 + 2 * m) (added q p b) ∙ more (q b) (cond (q c) 1 0) (mask_l (map q p))
-  where
-    more : (a : Bool) (c m : ℕ)
-        → c + 2 * (m + cond a (2 ^ length p) 0) ≡ c + 2 * m + cond a (2 ^ suc (length p)) 0
-    more true c m = omega (arith, pow-suc 2 (length p))
-    more false c m = omega arith
+added q [] b = grind arith
+added q (c ∷ p) b = grind (arith, pow-suc, added q p b)
 
 above : (n m : ℕ) → m < 2 ^ n → bit_or m (2 ^ n) ≡ m + 2 ^ n
 above n m l =
@@ -83,30 +60,14 @@ module _ (v : Text) (n e : ℕ) (inside : n ≤ length v) (end : e ≡ 2 ^ n) wh
   -- the bit above the first n is set, and no other
   ended : (q : ℕ → Bool) → q 45 ≡ true → (x : ℕ) → x ≡ mask_l (map q v)
       → bit_or (bit_and x (e - 1)) e ≡ mask_l (map q (closed (take n v)))
-  ended q is x marks =
-      let p : Text = take n v in
-      let len : length p ≡ n = length-take-le n v inside in
-      let lanes : length (map q p) ≡ n = length-map p q ∙ len in
-      let small : mask_l (map q p) < 2 ^ n =
-      subst (λ (k : ℕ). mask_l (map q p) < 2 ^ k) lanes (mask_l-lt (map q p)) in
-      (λ j. bit_or (masked q n x e v end marks j) (end j)) ∙ above n (mask_l (map q p)) small
-      ∙ ap (λ k. mask_l (map q p) + 2 ^ k) (sym len)
-      ∙ sym (added q p 45 ∙ ap (λ (a : Bool). mask_l (map q p) + cond a (2 ^ length p) 0) is)
+  ended q is x marks = grind (arith, length-take-le, length-map, mask_l-lt, masked, above, added)
 
   -- no bit is set there
   not_ended : (q : ℕ → Bool) → q 45 ≡ false → (x : ℕ) → x ≡ mask_l (map q v)
       → bit_and x (e - 1) ≡ mask_l (map q (closed (take n v)))
-  not_ended q clear x marks =
-      let p : Text = take n v in
-      let none : mask_l (map q p) ≡ mask_l (map q p) + 0 = omega arith in
-      masked q n x e v end marks ∙ none
-      ∙ sym (added q p 45 ∙ ap (λ (a : Bool). mask_l (map q p) + cond a (2 ^ length p) 0) clear)
+  not_ended q clear x marks = grind (arith, masked, added)
 
   pub closed_marks : (m r : Marks) → AreMarks v m → r.ends ≡ bit_or (bit_and m.ends (e - 1)) e
       → r.others ≡ bit_or (bit_and m.others (e - 1)) e → r.odd ≡ bit_and m.odd (e - 1)
       → AreMarks (closed (take n v)) r
-  closed_marks m r are h o d = record {
-    ends = h ∙ ended is_hyphen refl m.ends are.ends;
-    others = o ∙ ended no_letter refl m.others are.others;
-    odd = d ∙ not_ended is_odd refl m.odd are.odd;
-  }
+  closed_marks m r are h o d = grind (arith, ended, not_ended)

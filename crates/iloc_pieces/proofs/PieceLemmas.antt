@@ -1,7 +1,6 @@
 -- The words of a plain identifier as numbers.
 use Rattle.std.proofs.Common.{◌≡◌, ℕ, zero, suc, ◌+◌, ◌-◌, ◌*◌, ◌/◌, ◌%◌, ◌^◌, ◌≤◌, true, [], ◌∷◌, ◌++◌}
-use Rattle.std.proofs.Common.{length, get_or, take, drop, bit_and, refl, sym, ap, ◌∙◌, subst, arith, Some}
-use Rattle.std.proofs.Common.{None, IfSome}
+use Rattle.std.proofs.Common.{length, get_or, take, drop, bit_and, refl, sym, ap, ◌∙◌, arith, Some, None}
 use Rattle.std.specs.List.{list_all}
 use Rattle.std.specs.Char.{is_ascii_alphanumeric}
 use Rattle.std.proofs.lemmas.Bool.Decides.{nat_tests}
@@ -13,13 +12,13 @@ use Rattle.std.proofs.Math.Seq.{drop-append_seam}
 use Rattle.std.proofs.lemmas.List.{take-append-le}
 use Rattle.std.proofs.lemmas.Simd.{put_chunk_is}
 use lib.Lanes.{number_l, put_chunk}
-use Rattle.iloc_spec_grammar.specs.Syntax.{Text, Kind, Language, Region, IsWord, languages}
-use Rattle.iloc_spec_grammar.specs.Values.{IsNormal, IsIdentifierValue}
+use Rattle.iloc_spec_grammar.specs.Syntax.{Text, Kind, IsWord, languages}
+use Rattle.iloc_spec_grammar.specs.Values.{IsIdentifierValue}
 use Rattle.iloc_spec_grammar.proofs.WordsLaws.{every, word_letters_or_digits}
 use Rattle.iloc_tinystr.specs.Number.{number}
 use Rattle.iloc_tinystr.specs.TinyText.{is_text_byte}
 use Rattle.iloc_tinystr.proofs.RawForms.{Bytes}
-use Rattle.iloc_pieces.specs.PlainShape.{script_len, region_len, part, region_at, plain_identifier}
+use Rattle.iloc_pieces.specs.PlainShape.{script_len, plain_identifier}
 use Rattle.iloc_pieces.specs.Plain.{AreWords, value_of}
 use Rattle.iloc_pieces.specs.declared.plain.Plain.{Plain}
 use Rattle.iloc_pieces.proofs.WordLemmas.{part_two, part_three}
@@ -29,7 +28,7 @@ text_byte c h = grind (arith, nat_tests)
 
 -- words are texts
 text_of_word : (k : Kind) (p : Text) → IsWord k p → list_all is_text_byte p ≡ true
-text_of_word k p h = every is_ascii_alphanumeric is_text_byte text_byte p (word_letters_or_digits k p h)
+text_of_word k p h = grind (arith, every, text_byte, word_letters_or_digits)
 
 -- the number of the first bytes
 same_number : (xs : Text) → number_l 256 xs ≡ number xs
@@ -69,75 +68,35 @@ module _ (p : Plain) (words : AreWords p) (value : IsIdentifierValue languages (
       x ≡ bit_and (number_l 256 p.bytes % 2 ^ 64) ((2 ^ 64 - 1) / 2 ^ (64 - 8 * p.language)) → Shows x piece →
       piece ≡ (value_of p).language
   unfolding plain_identifier
-  language_is x piece fit e shows =
-      shows (take p.language p.bytes)
-      (text_of_word (Language languages) (take p.language p.bytes) value.language.0)
-      (e ∙ first_number p.language p.bytes fit words.language)
+  language_is x piece fit e shows = grind (arith, text_of_word, first_number)
 
   abbrev place : ℕ
   place = script_len p.has_script + 1
 
   pub no_region : p.region ≡ 0 → None ≡ (value_of p).region
   unfolding plain_identifier
-  no_region e = sym (ap (λ r. region_at r (p.language + place) p.bytes) e)
+  no_region e = grind arith
 
   pub region_two : (x at : ℕ) (b piece : Text) → b ≡ p.bytes → length b ≡ 16 → at ≡ p.len - p.region →
       x ≡ get_or b at 0 + 256 * get_or b (at + 1) 0 → p.region ≡ 2 → Shows x piece →
       Some piece ≡ (value_of p).region
   unfolding plain_identifier
-  region_two x at b piece same long here e two shows =
-      let size : region_len p.region ≡ 3 = ap region_len two in
-      let there : at ≡ p.language + place = omega (arith, words.long) in
-      let next : at + 1 ≡ p.language + (place + 1) = omega (arith, words.long) in
-      let region_is : region_at p.region (p.language + place) p.bytes
-      ≡ Some (part 2 (p.language + place) p.bytes) = ap (λ r. region_at r (p.language + place) p.bytes) two in
-      let normal : IsNormal Region (part 2 (p.language + place) p.bytes) =
-      subst (λ o. IfSome o (IsNormal Region)) region_is value.region in
-      let listed =
-      part_two p.language place p.bytes (omega (arith, words.long, words.fits, ap length same)) in
-      let first : get_or b at 0 ≡ get_or p.bytes (p.language + place) 0 = λ i. get_or (same i) (there i) 0 in
-      let second : get_or b (at + 1) 0 ≡ get_or p.bytes (p.language + (place + 1)) 0 =
-      λ i. get_or (same i) (next i) 0 in
-      let number_is : x ≡ number (part 2 (p.language + place) p.bytes) =
-      omega (arith, e, first, second, ap number listed) in
-      ap Some (shows (part 2 (p.language + place) p.bytes) (text_of_word Region _ normal.0) number_is)
-      ∙ sym region_is
+  region_two x at b piece same long here e two shows = grind (arith, part_two, text_of_word)
 
   pub region_three : (x at : ℕ) (b piece : Text) → b ≡ p.bytes → length b ≡ 16 → at ≡ p.len - p.region →
       x ≡ get_or b at 0 + 256 * get_or b (at + 1) 0 + 65536 * get_or b (at + 2) 0 → p.region ≡ 3 →
       Shows x piece → Some piece ≡ (value_of p).region
   unfolding plain_identifier
-  region_three x at b piece same long here e three shows =
-      let size : region_len p.region ≡ 4 = ap region_len three in
-      let there : at ≡ p.language + place = omega (arith, words.long) in
-      let next : at + 1 ≡ p.language + (place + 1) = omega (arith, words.long) in
-      let last : at + 2 ≡ p.language + (place + 1 + 1) = omega (arith, words.long) in
-      let region_is : region_at p.region (p.language + place) p.bytes
-      ≡ Some (part 3 (p.language + place) p.bytes) =
-      ap (λ r. region_at r (p.language + place) p.bytes) three in
-      let normal : IsNormal Region (part 3 (p.language + place) p.bytes) =
-      subst (λ o. IfSome o (IsNormal Region)) region_is value.region in
-      let listed =
-      part_three p.language place p.bytes (omega (arith, words.long, words.fits, ap length same)) in
-      let first : get_or b at 0 ≡ get_or p.bytes (p.language + place) 0 = λ i. get_or (same i) (there i) 0 in
-      let second : get_or b (at + 1) 0 ≡ get_or p.bytes (p.language + (place + 1)) 0 =
-      λ i. get_or (same i) (next i) 0 in
-      let third : get_or b (at + 2) 0 ≡ get_or p.bytes (p.language + (place + 1 + 1)) 0 =
-      λ i. get_or (same i) (last i) 0 in
-      let number_is : x ≡ number (part 3 (p.language + place) p.bytes) =
-      omega (arith, e, first, second, third, ap number listed) in
-      ap Some (shows (part 3 (p.language + place) p.bytes) (text_of_word Region _ normal.0) number_is)
-      ∙ sym region_is
+  region_three x at b piece same long here e three shows = grind (arith, part_three, text_of_word)
 
 -- ---- sixteen bytes that are stored
 
 stored : (xs ys : Text) → length ys ≡ 16 → 16 ≤ length xs → put_chunk 0 xs ys ≡ ys ++ drop 16 xs
-stored xs ys long room = put_chunk_is 0 xs ys (omega arith) ∙ ap (λ k. ys ++ drop k xs) long
+stored xs ys long room = grind (arith, put_chunk_is)
 
 pub stored_first : (n : ℕ) (xs ys : Text) → length ys ≡ 16 → 16 ≤ length xs → n ≤ 16 →
     take n (put_chunk 0 xs ys) ≡ take n ys
-stored_first n xs ys long room few =
-    ap (take n) (stored xs ys long room) ∙ take-append-le n ys (drop 16 xs) (omega arith)
+stored_first n xs ys long room few = grind (arith, stored, take-append-le)
 
 pub stored_rest : (xs ys : Text) → length ys ≡ 16 → 16 ≤ length xs →
     drop 16 (put_chunk 0 xs ys) ≡ drop 16 xs

@@ -1,7 +1,6 @@
 -- From a mask of sixteen bytes to those that come first.
-use Rattle.std.proofs.Common.{◌≡◌, ℕ, ◌+◌, ◌*◌, ◌<◌, ◌≤◌, Bool, true, false, cond, not, List}
-use Rattle.std.proofs.Common.{[], ◌∷◌, ◌++◌, length, get_or, take, refl, sym, ap, ◌∙◌}
-use Rattle.std.proofs.Common.{arith, length-append}
+use Rattle.std.proofs.Common.{◌≡◌, ℕ, ◌<◌, ◌≤◌, Bool, true, false, not, List, [], ◌∷◌, ◌++◌}
+use Rattle.std.proofs.Common.{length, get_or, take, refl, sym, ap, ◌∙◌, arith, length-append}
 use Rattle.std.specs.List.{prefix_len}
 use Rattle.std.proofs.lemmas.List.{length-take-le, get_or-take}
 use Rattle.std.proofs.lemmas.List.Sums.{prefix_len_passes, prefix_len_stops, prefix_len-le-length}
@@ -38,12 +37,11 @@ twice false = refl
 -- marks of bytes that are added and not marked change nothing
 unmarked : (ms : List Bool) → mask_l (ms ++ false ∷ false ∷ false ∷ []) ≡ mask_l ms
 unmarked [] = refl
-unmarked (m ∷ ms) = ap (λ n. cond m 1 0 + 2 * n) (unmarked ms)
+unmarked (m ∷ ms) = grind (arith, unmarked ms)
 
 -- thirteen bytes, and three that no test marks
 abbrev pub padded : Text → Text
 padded w = take 13 w ++ 97 ∷ 97 ∷ 97 ∷ []
 
 pub length-padded : (w : Text) → 13 ≤ length w → length (padded w) ≡ 16
-length-padded w wide =
-    length-append (take 13 w) (97 ∷ 97 ∷ 97 ∷ []) ∙ ap (λ n. n + 3) (length-take-le 13 w wide)
+length-padded w wide = grind (arith, length-append, length-take-le)

@@ -1,11 +1,10 @@
 -- Whether bytes that come first are all of a class.
 use Rattle.std.proofs.Common.{◌≡◌, ℕ, zero, suc, ◌<◌, ◌≤◌, ◌==◌, Bool, true, false, ◌&&◌, nat_le}
-use Rattle.std.proofs.Common.{[], ◌∷◌, length, get_or, take, refl, sym, ap, ◌∙◌, arith, inl, inr}
+use Rattle.std.proofs.Common.{[], ◌∷◌, length, get_or, take, refl, ap, ◌∙◌, arith}
 use Rattle.std.specs.List.{list_all}
 use Rattle.std.specs.Int.{is_in_range}
 use Rattle.std.specs.Char.{is_ascii_alphabetic, is_ascii_alphanumeric}
 use Rattle.std.proofs.lemmas.Bool.{cases_lt}
-use Rattle.std.proofs.lemmas.Bool.Decides.{nat_tests}
 use Rattle.std.proofs.lemmas.List.{length-take-le}
 use Rattle.iloc_spec_grammar.specs.Syntax.{Text, Attribute, Language, UnicodeKey, is_word}
 use Rattle.iloc_spec_grammar.specs.Syntax.{letters, letters_or_digits, languages}
@@ -31,21 +30,12 @@ one_fails : (p : ℕ → Bool) (k n : ℕ) (w : Text) → k < n → n ≤ length
 one_fails p k zero w l m e = absurd (omega arith)
 one_fails p k (suc n) [] l m e = absurd (omega arith)
 one_fails p zero (suc n) (b ∷ w) l m e = ap (λ a. a && list_all p (take n w)) e
-one_fails p (suc k) (suc n) (b ∷ w) l m e =
-    ap (λ a. p b && a) (one_fails p k n w (omega arith) (omega arith) e) ∙ and-false (p b)
+one_fails p (suc k) (suc n) (b ∷ w) l m e = grind (arith, and-false, one_fails p k n w)
 
 -- n bytes are all of the class where no fewer come first
 pub run_tests : (p : ℕ → Bool) (w : Text) (k n : ℕ) → 16 ≤ length w → n ≤ 16 → IsRun p w k →
     nat_le n k ≡ list_all p (take n w)
-run_tests p w k n wide few r = elim (cases_lt k n) [
-  | inl less ↦
-      let no : nat_le n k ≡ false = grind (arith, nat_tests) in
-      let short : k < 16 = omega arith in
-      no ∙ sym (one_fails p k n w less (omega arith) (r.ends short))
-  | inr more ↦
-      let yes : nat_le n k ≡ true = grind (arith, nat_tests) in
-      yes ∙ sym (all_pass p n w (omega arith) (λ i inside. r.pass i (omega arith)))
-]
+run_tests p w k n wide few r = grind (arith, cases_lt, one_fails, all_pass)
 
 module _ (w : Text) (n : ℕ) (wide : 16 ≤ length w) (few : n ≤ 16) where
   long : length (take n w) ≡ n
@@ -59,9 +49,8 @@ module _ (w : Text) (n : ℕ) (wide : 16 ≤ length w) (few : n ≤ 16) where
       ≡ (n == 2)
       && (is_ascii_alphanumeric (get_or (take n w) 0 0) && is_ascii_alphabetic (get_or (take n w) 1 0))
   unfolding is_word
-  key_is = ap (λ m. (m == 2)
-      && (is_ascii_alphanumeric (get_or (take n w) 0 0) && is_ascii_alphabetic (get_or (take n w) 1 0))) long
+  key_is = grind (arith, long)
 
   pub attribute_is : is_word Attribute (take n w) ≡ is_in_range 3 8 n && letters_or_digits (take n w)
   unfolding is_word
-  attribute_is = ap (λ m. is_in_range 3 8 m && letters_or_digits (take n w)) long
+  attribute_is = grind (arith, long)

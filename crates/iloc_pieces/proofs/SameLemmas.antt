@@ -1,5 +1,5 @@
 -- Two vectors are the same at their first lanes exactly if no lane there differs.
-use Rattle.std.proofs.Common.{◌≡◌, ℕ, zero, suc, ◌+◌, ◌-◌, ◌*◌, ◌/◌, ◌%◌, ◌^◌, ◌<◌, ◌≤◌, Bool, true, false}
+use Rattle.std.proofs.Common.{◌≡◌, ℕ, zero, suc, ◌+◌, ◌-◌, ◌*◌, ◌%◌, ◌^◌, ◌<◌, ◌≤◌, Bool, true, false}
 use Rattle.std.proofs.Common.{IsTrue, not, cond, [], ◌∷◌, length, take, map, bit_and, ◌↔◌, w8, refl}
 use Rattle.std.proofs.Common.{sym, ap, ◌∙◌, arith, eqb}
 use Rattle.std.specs.Prelude.{nat_eq}
@@ -16,22 +16,17 @@ differ a b = not (eqb a b)
 
 -- a number of one bit more
 pub low_bit : (c m p : ℕ) → c < 2 → 0 < p → (c + 2 * m) % (p * 2) ≡ c + 2 * (m % p)
-low_bit c m p few some =
-    let small : m % p < p = omega arith in
-    let whole : c + 2 * m ≡ m / p * (p * 2) + (c + 2 * (m % p)) = omega arith in
-    ap (λ y. y % (p * 2)) whole ∙ mod-mul-add (m / p) (p * 2) (c + 2 * (m % p)) (omega arith)
+low_bit c m p few some = grind (arith, mod-mul-add)
 
 pub bit : (b : Bool) → cond b 1 0 < 2
 bit true = omega arith
 bit false = omega arith
 
 cut : (b : Bool) (m n : ℕ) → (cond b 1 0 + 2 * m) % 2 ^ suc n ≡ cond b 1 0 + 2 * (m % 2 ^ n)
-cut b m n =
-    ap (λ k. (cond b 1 0 + 2 * m) % k) (pow-suc 2 n) ∙ low_bit (cond b 1 0) m (2 ^ n) (bit b) (pow_pos n)
+cut b m n = grind (arith, pow-suc, low_bit, bit, pow_pos)
 
 none_is : (b : Bool) (k : ℕ) → cond b 1 0 + 2 * k ≡ 0 → (b ≡ false) × (k ≡ 0)
-none_is true k e = absurd (omega arith)
-none_is false k e = (refl, omega arith)
+none_is b k h = grind arith
 
 same_byte : (a b : ℕ) → differ a b ≡ false → a ≡ b
 same_byte a b e = grind (arith, nat_tests)
@@ -45,19 +40,10 @@ same_lanes v w zero long few = (λ _. refl, λ _. omega arith)
 same_lanes [] w (suc n) long few = absurd (omega arith)
 same_lanes (a ∷ v) [] (suc n) long few = absurd (omega arith)
 same_lanes (a ∷ v) (b ∷ w) (suc n) long few =
-    let rest = same_lanes v w n (omega arith) (omega arith) in
-    let m : ℕ = mask_l (zip2 differ v w) in (
-      λ e.
-          let both = none_is (differ a b) (m % 2 ^ n) (sym (cut (differ a b) m n) ∙ e) in
-          λ j. same_byte a b both.0 j ∷ rest.0 both.1 j,
-      λ e.
-          let first : a ≡ b = cc in
-          let others : take n v ≡ take n w = cc in
-          cut (differ a b) m n ∙ (λ j. cond (no_difference a b first j) 1 0 + 2 * rest.1 others j),
-    )
+    grind (arith, none_is, cut, same_byte, no_difference, same_lanes v w n)
 
 is_none : (m : ℕ) → IsTrue (nat_eq m 0) ↔ (m ≡ 0)
-is_none m = (λ e. grind (arith, nat_tests), λ e. grind (arith, nat_tests))
+is_none m = grind arith
 
 -- by the bits that mark the lanes that differ
 pub same_first : (v w : Text) (n : ℕ) → length v ≡ 16 → length w ≡ 16 → n ≤ 16

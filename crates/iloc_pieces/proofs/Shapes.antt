@@ -1,8 +1,8 @@
 -- A piece of at most eight bytes is a word of the same kinds as the text that its shape spells. So a test of
 -- a word is one of its shape where the two agree on 512 numbers.
-use Rattle.std.proofs.Common.{◌≡◌, ℕ, zero, suc, ◌+◌, ◌*◌, ◌/◌, ◌%◌, ◌^◌, ◌<◌, ◌≤◌, ◌==◌, nat_le, Bool, true}
-use Rattle.std.proofs.Common.{false, cond, ◌&&◌, ◌||◌, [], ◌∷◌, length, map, slice_index, refl, sym, ap}
-use Rattle.std.proofs.Common.{ap₂, ◌∙◌, arith, inl, inr, pow-suc}
+use Rattle.std.proofs.Common.{◌≡◌, ℕ, zero, suc, ◌+◌, ◌*◌, ◌/◌, ◌%◌, ◌^◌, ◌<◌, ◌≤◌, ◌==◌, nat_le, Bool}
+use Rattle.std.proofs.Common.{true, false, cond, ◌&&◌, ◌||◌, [], ◌∷◌, length, map, slice_index, refl, sym}
+use Rattle.std.proofs.Common.{ap, ap₂, ◌∙◌, arith, inl, inr, pow-suc}
 use Rattle.std.specs.Int.{is_in_range}
 use Rattle.std.specs.Char.{is_ascii_alphabetic, is_ascii_digit, is_ascii_alphanumeric}
 use Rattle.std.proofs.lemmas.Bool.{agree_below, agree_below_at, and_parts, cases_Bool, cases_lt}
@@ -10,9 +10,10 @@ use Rattle.std.proofs.lemmas.Bool.{false_from_ne_true}
 use Rattle.std.proofs.lemmas.Bool.Decides.{nat_tests}
 use Rattle.std.proofs.lemmas.List.{length-map}
 use Rattle.std.proofs.lemmas.Nat.{pow_pos}
-use Rattle.iloc_spec_grammar.specs.Syntax.{Text, Kind, Language, Script, Region, Variant, Subtag, UnicodeKey}
-use Rattle.iloc_spec_grammar.specs.Syntax.{TransformKey, Attribute, PrivateSubtag, SubdivisionSuffix}
-use Rattle.iloc_spec_grammar.specs.Syntax.{CurrencyType, letters_or_digits, is_word, IsWord, Bounds}
+use Rattle.iloc_spec_grammar.specs.Syntax.{Text, Kind, Language, Script, Region, Variant, Subtag}
+use Rattle.iloc_spec_grammar.specs.Syntax.{UnicodeKey, TransformKey, Attribute, PrivateSubtag}
+use Rattle.iloc_spec_grammar.specs.Syntax.{SubdivisionSuffix, CurrencyType, letters_or_digits, is_word}
+use Rattle.iloc_spec_grammar.specs.Syntax.{IsWord, Bounds}
 use Rattle.iloc_spec_grammar.proofs.General.{list_all-mapped}
 use Rattle.iloc_spec_grammar.proofs.WordsLaws.{word_letters_or_digits}
 use Rattle.iloc_pieces.specs.Shape.{bits, shape_of}
@@ -73,16 +74,7 @@ spell s = cond (s == 0) (45 ∷ []) (spell_bits 8 s)
 
 step_by : (a : Bool) (c n m : ℕ) → c ≡ cond a 0 1 → 0 < m →
     spell_bits (suc n) (c + 2 * m) ≡ cond a 97 48 ∷ spell_bits n m
-step_by true c n m e l =
-    let more : nat_le (c + 2 * m) 1 ≡ false = grind (arith, nat_tests) in
-    let low : ((c + 2 * m) % 2 == 1) ≡ false = grind (arith, nat_tests) in
-    let rest : (c + 2 * m) / 2 ≡ m = omega arith in
-    λ j. cond (more j) [] (cond (low j) 48 97 ∷ spell_bits n (rest j))
-step_by false c n m e l =
-    let more : nat_le (c + 2 * m) 1 ≡ false = grind (arith, nat_tests) in
-    let low : ((c + 2 * m) % 2 == 1) ≡ true = grind (arith, nat_tests) in
-    let rest : (c + 2 * m) / 2 ≡ m = omega arith in
-    λ j. cond (more j) [] (cond (low j) 48 97 ∷ spell_bits n (rest j))
+step_by a c n m h k = grind arith
 
 step : (a : Bool) (n m : ℕ) → 0 < m → spell_bits (suc n) (cond a 0 1 + 2 * m) ≡ cond a 97 48 ∷ spell_bits n m
 step a n m l = step_by a (cond a 0 1) n m refl l
@@ -96,12 +88,8 @@ few_bits : (n : ℕ) (p : Text) → length p ≤ n → bits p < 2 ^ suc n
 unfolding bits
 few_bits zero [] l = omega arith
 few_bits zero (b ∷ p) l = absurd (omega arith)
-few_bits (suc n) [] l = omega (arith, pow-suc 2 (suc n), pow_pos (suc n))
-few_bits (suc n) (b ∷ p) l = bit (is_ascii_alphabetic b) (few_bits n p (omega arith))
-  where
-    bit : (a : Bool) → bits p < 2 ^ suc n → cond a 0 1 + 2 * bits p < 2 ^ suc (suc n)
-    bit true h = omega (arith, pow-suc 2 (suc n))
-    bit false h = omega (arith, pow-suc 2 (suc n))
+few_bits (suc n) [] l = grind (arith, pow-suc, pow_pos)
+few_bits (suc n) (b ∷ p) l = grind (arith, pow-suc, few_bits n p)
 
 word_byte : (b : ℕ) → is_ascii_alphanumeric b ≡ true → cond (is_ascii_alphabetic b) 97 48 ≡ typical b
 word_byte b h = grind (arith, nat_tests)
@@ -112,43 +100,25 @@ unfolding bits
 spelled zero [] l h = refl
 spelled zero (b ∷ p) l h = absurd (omega arith)
 spelled (suc n) [] l h = refl
-spelled (suc n) (b ∷ p) l h =
-    let parts = and_parts _ _ h in
-    step (is_ascii_alphabetic b) n (bits p) (some_bits p)
-    ∙ (λ j. word_byte b parts.0 j ∷ spelled n p (omega arith) parts.1 j)
+spelled (suc n) (b ∷ p) l h = grind (arith, and_parts, step, some_bits, word_byte, spelled n p)
 
 -- ---- words by their shapes
 
 no_word : (k : Kind) → is_word k (spell 0) ≡ false
 unfolding is_word spell
-no_word (Language T) = and-false (T 1)
-  where
-    and-false : (b : Bool) → (b && false) ≡ false
-    and-false true = refl
-    and-false false = refl
-no_word Script = refl
-no_word Region = refl
-no_word Variant = refl
-no_word Subtag = refl
-no_word UnicodeKey = refl
-no_word TransformKey = refl
-no_word Attribute = refl
-no_word PrivateSubtag = refl
-no_word SubdivisionSuffix = refl
-no_word CurrencyType = refl
+no_word k = grind arith
 
 -- the bits of at least n bytes
 many_bits : (n : ℕ) (p : Text) → n ≤ length p → 2 ^ n ≤ bits p
 unfolding bits
 many_bits zero p l = omega (arith, some_bits p)
 many_bits (suc n) [] l = absurd (omega arith)
-many_bits (suc n) (b ∷ p) l = omega (arith, pow-suc 2 n, many_bits n p (omega arith))
+many_bits (suc n) (b ∷ p) l = grind (arith, pow-suc, many_bits n p)
 
 -- no word is longer than eight bytes
 pub few_bytes : (k : Kind) → Bounds 8 k → (p : Text) → IsWord k p → length p ≤ 8
 unfolding is_word
-few_bytes (Language T) ends p h = ends (length p) (and_parts _ _ h).0
-few_bytes _ ends p h = grind (arith, nat_tests)
+few_bytes k h p e = grind (arith, and_parts)
 
 -- what has another byte is none
 shape_of_none : (p : Text) → letters_or_digits p ≡ false → shape_of p ≡ 0

@@ -1,7 +1,7 @@
 -- From the first piece of one byte to the first block.
 use Rattle.std.proofs.Common.{◌≡◌, ◌≢◌, ℕ, zero, suc, ◌+◌, ◌-◌, ◌/◌, ◌^◌, ◌<◌, ◌≤◌, Bool, true, false}
 use Rattle.std.proofs.Common.{cond, min, List, [], ◌∷◌, ◌++◌, length, map, get_or, take, drop, bit_and, w64}
-use Rattle.std.proofs.Common.{refl, sym, ap, ◌∙◌, subst, arith, inl, inr}
+use Rattle.std.proofs.Common.{refl, sym, ap, ◌∙◌, arith, inl, inr}
 use Rattle.std.specs.Int.{bit_at}
 use Rattle.std.specs.List.{AllByRecursion, onto_first}
 use Rattle.std.proofs.lemmas.Bool.{cases_Bool, eqb-true, true≢false}
@@ -20,7 +20,6 @@ use Rattle.iloc_spec_grammar.proofs.PiecesLaws.{at_pieces}
 use Rattle.iloc_spec_grammar.proofs.Readings.{IsLong, long_script, long_region, long_variant}
 use Rattle.iloc_pieces.specs.Run.{IsFirstSingle, is_hyphen}
 use Rattle.iloc_pieces.specs.Front.{IsFound}
-use Rattle.iloc_pieces.specs.Window.{text_in}
 use Rattle.iloc_pieces.specs.declared.window.Window.{Window}
 use Rattle.iloc_pieces.proofs.FrontLemmas.{behind as behind_first, later_bytes}
 use Rattle.iloc_spec_grammar.proofs.Singletons.{two_more}
@@ -31,7 +30,7 @@ marked : (v : Text) (i : ℕ) → get_or (map is_hyphen v) i false ≡ true →
     (is_hyphen (get_or v i 0) ≡ true) × (i < length v)
 marked [] i e = absurd (cc)
 marked (b ∷ v) zero e = (e, omega arith)
-marked (b ∷ v) (suc i) e = let t = marked v i e in (t.0, omega (arith, t.1))
+marked (b ∷ v) (suc i) e = grind (arith, marked v i e)
 
 mark_of : (v : Text) (i : ℕ) → i < length v → get_or (map is_hyphen v) i false ≡ is_hyphen (get_or v i 0)
 mark_of [] i l = absurd (omega arith)
@@ -39,15 +38,10 @@ mark_of (b ∷ v) zero l = refl
 mark_of (b ∷ v) (suc i) l = mark_of v i (omega arith)
 
 both_set : (a b : Bool) → min (cond a 1 0) (cond b 1 0) ≡ 1 → (a ≡ true) × (b ≡ true)
-both_set true true e = (refl, refl)
-both_set true false e = absurd (omega arith)
-both_set false true e = absurd (omega arith)
-both_set false false e = absurd (omega arith)
+both_set a b h = grind arith
 
 not_both : (a b : Bool) → min (cond a 1 0) (cond b 1 0) ≡ 0 → a ≡ true → b ≡ false
-not_both true true e h = absurd (omega arith)
-not_both true false e h = refl
-not_both false b e h = absurd (true≢false (sym h))
+not_both a b h k = grind arith
 
 module _ (w : Text) (m : ℕ) (wide : 16 ≤ length w) (e : m ≡ mask_l (map is_hyphen (take 16 w)))
     (some : 0 < bit_and m (m / 4)) where
@@ -64,10 +58,7 @@ module _ (w : Text) (m : ℕ) (wide : 16 ≤ length w) (e : m ≡ mask_l (map is
   long = length-take-le 16 w wide
 
   small : bit_and m (m / 4) < 2 ^ 64
-  small =
-      let below : mask_l (map is_hyphen v) < 2 ^ length (map is_hyphen v) = mask_l-lt (map is_hyphen v) in
-      let size : 2 ^ length (map is_hyphen v) ≡ 2 ^ 16 = ap (λ k. 2 ^ k) (length-map v is_hyphen ∙ long) in
-      omega (arith, and_le_l m (m / 4), e, below, size)
+  small = grind (arith, mask_l-lt, length-map, long, and_le_l)
 
   lowest : (n < 64) × (bit_at (bit_and m (m / 4)) n ≡ 1)
       × ((i : ℕ) → i < n → bit_at (bit_and m (m / 4)) i ≡ 0)
@@ -83,10 +74,10 @@ module _ (w : Text) (m : ℕ) (wide : 16 ≤ length w) (e : m ≡ mask_l (map is
       ∙ low (suc (suc i))
 
   both : (i : ℕ) → bit_at (bit_and m (m / 4)) i ≡ min (cond (mark i) 1 0) (cond (mark (suc (suc i))) 1 0)
-  both i = bit_at_and m (m / 4) i ∙ (λ j. min (low i j) (high i j))
+  both i = grind (arith, bit_at_and, low, high)
 
   set : (mark n ≡ true) × (mark (suc (suc n)) ≡ true)
-  set = both_set (mark n) (mark (suc (suc n))) (sym (both n) ∙ lowest.1)
+  set = grind (arith, both_set, both, lowest)
 
   shown : (i : ℕ) → mark i ≡ true → is_hyphen (get_or w i 0) ≡ true
   shown i h =
@@ -119,17 +110,10 @@ first_long : (t : Text) (k : ℕ) → k < length t → is_hyphen (get_or t k 0) 
     is_hyphen (get_or t 1 0) ≡ false → IsLong (first_piece (pieces t))
 unfolding pieces
 first_long [] k l h e = absurd (omega arith)
-first_long (c ∷ []) zero l h e =
-    ap (λ ps. is_one_byte (first_piece ps)) (slice_split-cons_yes is_hyphen c [] h)
+first_long (c ∷ []) zero l h e = grind (arith, slice_split-cons_yes)
 first_long (c ∷ []) (suc k) l h e = absurd (omega arith)
-first_long (c ∷ d ∷ t) k l h e = elim (cases_Bool (is_hyphen c)) [
-  | inl is ↦ ap (λ ps. is_one_byte (first_piece ps)) (slice_split-cons_yes is_hyphen c (d ∷ t) is)
-  | inr other ↦
-      ap (λ ps. is_one_byte (first_piece ps)) (slice_split-cons_no is_hyphen c (d ∷ t) other
-      ∙ ap (onto_first c) (slice_split-cons_no is_hyphen d t e))
-      ∙ at_pieces (λ ps. is_one_byte (first_piece (onto_first c (onto_first d ps))) ≡ false)
-      (λ p ps. two_more (length p)) t
-]
+first_long (c ∷ d ∷ t) k l h e =
+    grind (arith, cases_Bool, slice_split-cons_yes, slice_split-cons_no, at_pieces, two_more)
 
 -- long pieces, after a first one, come before the others
 record IsCut (t : Text) (rest : List Text) : Type 0 where
@@ -177,13 +161,11 @@ record IsAhead (rest ps : List Text) : Type 0 where
 module _ (r : Text) (rs : List Text) (one : is_one_byte r ≡ true) where
   -- words have more than a byte
   fails : (f : Text → Bool) → ((p : Text) → f p ≡ true → IsLong p) → f r ≡ false
-  fails f word =
-      elim (cases_Bool (f r)) [ inl is ↦ absurd (true≢false (sym one ∙ word r is)) | inr other ↦ other ]
+  fails f word = grind (arith, cases_Bool, one)
 
   skips : (f : Text → Bool) → ((p : Text) → f p ≡ true → IsLong p) → (qs : List Text) →
       AllByRecursion IsLong qs → IsAhead (r ∷ rs) (skip_first f (qs ++ r ∷ rs))
-  skips f word [] h =
-      record { between = []; cut = ap (λ (b : Bool). cond b rs (r ∷ rs)) (fails f word); long = tt }
+  skips f word [] h = grind (arith, fails, long)
   skips f word (q ∷ qs) h = elim (cases_Bool (f q)) [
     | inl is ↦ record {
       between = qs;
@@ -199,8 +181,7 @@ module _ (r : Text) (rs : List Text) (one : is_one_byte r ≡ true) where
 
   passes : (f : Text → Bool) → ((p : Text) → f p ≡ true → IsLong p) → (qs : List Text) →
       AllByRecursion IsLong qs → IsAhead (r ∷ rs) (past f (qs ++ r ∷ rs))
-  passes f word [] h =
-      record { between = []; cut = ap (λ (b : Bool). cond b (past f rs) (r ∷ rs)) (fails f word); long = tt }
+  passes f word [] h = grind (arith, fails, long)
   passes f word (q ∷ qs) h = elim (cases_Bool (f q)) [
     | inl is ↦
         let later = passes f word qs h.1 in
@@ -255,7 +236,7 @@ cut_text : (t : Text) (k : ℕ) → k < length t → is_hyphen (get_or t k 0) �
     t ≡ take k t ++ 45 ∷ drop (suc k) t
 cut_text [] k l h = absurd (omega arith)
 cut_text (c ∷ t) zero l h = ap (λ b. b ∷ t) (eqb-true c 45 h)
-cut_text (c ∷ t) (suc k) l h = ap (λ u. c ∷ u) (cut_text t k (omega arith) h)
+cut_text (c ∷ t) (suc k) l h = grind (arith, cut_text t k)
 
 -- a byte between hyphens is a piece
 pub one_between : (t : Text) → is_hyphen (get_or t 0 0) ≡ false → is_hyphen (get_or t 1 0) ≡ true →
@@ -263,8 +244,7 @@ pub one_between : (t : Text) → is_hyphen (get_or t 0 0) ≡ false → is_hyphe
 unfolding pieces
 one_between [] a b l = absurd (omega arith)
 one_between (c ∷ []) a b l = absurd (omega arith)
-one_between (c ∷ d ∷ t) a b l = ap first_piece
-    (slice_split-cons_no is_hyphen c (d ∷ t) a ∙ ap (onto_first c) (slice_split-cons_yes is_hyphen d t b))
+one_between (c ∷ d ∷ t) a b l = grind (arith, slice_split-cons_no, slice_split-cons_yes)
 
 -- ---- in a line
 
@@ -298,9 +278,7 @@ module _ (w : Text) (len at : ℕ) (room : len + 16 ≤ length w) (s : IsFirstSi
       (omega (arith, length-drop (suc at) text, length-take-le len w (omega arith)))
 
   singleton_there : first_piece (pieces (take (len - at - 1) window)) ≡ get_or window 0 0 ∷ []
-  singleton_there =
-      ap (λ t. first_piece (pieces t)) (sym rest) ∙ one ∙ ap (λ t. get_or t 0 0 ∷ []) rest
-      ∙ ap (λ b. b ∷ []) (get_or-take (len - at - 1) window 0 0 (omega arith))
+  singleton_there = grind (arith, rest, one, get_or-take)
 
   whole : length text ≡ len
   whole = length-take-le len w (omega arith)
@@ -324,17 +302,4 @@ module _ (w : Text) (len at : ℕ) (room : len + 16 ≤ length w) (s : IsFirstSi
   pub found_there : (b : Window) → b.bytes.now ≡ window → length w ≡ len + 16 →
       IsWord (Language languages) (first_piece (pieces text)) → (k : ℕ) → len ≡ k → IsFound (take k w) b
   found_there b e narrow begins k whole_len =
-      let size : length window - 16 ≡ len - at - 1 = omega (arith, behind_first w (at + 1) (omega arith)) in
-      let same : text_in b ≡ take (len - at - 1) window =
-      ap (λ t. take (length t - 16) t) e ∙ ap (λ m. take m window) size in
-      let few : length (text_in b) ≡ len - at - 1 =
-      ap length same ∙ length-take-le (len - at - 1) window (omega (arith, size)) in
-      subst (λ (n : ℕ). IsFound (take n w) b) whole_len (record {
-        begins = begins;
-        less = omega (arith, few, whole);
-        cut = cut_there ∙ (λ j. take (length text - (sym few j + 1)) text ++ 45 ∷ sym same j);
-        next = λ h. next_there h ∙ ap pieces (sym same);
-        singleton = ap (λ t. first_piece (pieces t)) same ∙ singleton_there
-            ∙ ap (λ t. get_or t 0 0 ∷ []) (sym e);
-        some = omega (arith, few);
-      })
+      grind (arith, behind_first, length-take-le, whole, cut_there, next_there, singleton_there)

@@ -1,5 +1,5 @@
 -- The table of what may follow a language.
-use Rattle.std.proofs.Common.{◌≡◌, inl, inr, ℕ, zero, suc, ◌+◌, ◌<◌, Bool, true, false, List, [], ◌∷◌, map}
+use Rattle.std.proofs.Common.{◌≡◌, inl, ℕ, zero, suc, ◌+◌, ◌<◌, Bool, true, false, List, [], ◌∷◌, map}
 use Rattle.std.proofs.Common.{get_or, replicate, refl, arith}
 use Rattle.iloc_pieces.specs.PlainShape.{script_len, region_len, region_places, code_places, script_places}
 use Rattle.iloc_pieces.specs.PlainShape.{row}
@@ -35,15 +35,7 @@ tails = tail [] false 0 ∷ no_tail ∷ no_tail ∷ tail region_places false 2 �
 
 shaped : (m : ℕ) (ps : List Place) (s : Bool) (r : ℕ) → script_len s + region_len r ≡ m → ShapeOf s r ps →
     MayHaveShape m (tail ps s r)
-shaped m ps s r long shape = inr (record {
-  places = ps;
-  long = long;
-  shape = shape;
-  mask = refl;
-  least = refl;
-  span = refl;
-  normal = refl;
-})
+shaped m ps s r long shape = grind arith
 
 pub each_tail : (d : Tail) (k : ℕ) → k < 16 → MayHaveShape k (get_or tails k d)
 each_tail d zero l = shaped 0 [] false 0 refl ShapeOf.language

@@ -1,6 +1,5 @@
 -- The tests of shapes, one for each kind of words: each is a table of 512, and a bound.
-use Rattle.std.proofs.Common.{◌≡◌, ℕ, ◌≤◌, nat_le, cond, false, ◌&&◌, ◌||◌, refl, bit_or, bit_and}
-use Rattle.std.proofs.Common.{arith, ap, sym, ◌∙◌}
+use Rattle.std.proofs.Common.{◌≡◌, ℕ, ◌≤◌, nat_le, cond, false, ◌&&◌, ◌||◌, refl, bit_or, bit_and, arith}
 use Rattle.std.specs.Prelude.{nat_eq, nat_lt}
 use Rattle.std.proofs.lemmas.Bool.{eqb-true, false_from_ne_true}
 use Rattle.std.proofs.lemmas.Bool.Decides.{nat_tests}
@@ -115,5 +114,4 @@ key_no_variant p h = false_from_ne_true _
     (λ e. let k = length-variant p e in let n = length-transform_key p h in absurd (omega arith))
 
 pub key_no_region : (p : Text) → IsWord TransformKey p → is_word Region p ≡ false
-key_no_region p h = region_is p
-    ∙ ap (λ s. nat_eq s 4 || nat_eq s 15) (eqb-true (shape_of p) 6 (sym (field_key_is p) ∙ h))
+key_no_region p h = grind (arith, region_is, eqb-true, field_key_is)

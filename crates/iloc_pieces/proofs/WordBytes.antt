@@ -1,7 +1,6 @@
 -- The bytes of words: the first two, and those of `true`.
-use Rattle.std.proofs.Common.{inl, inr, take, ◌≡◌, ℕ, ◌<◌, ◌≤◌, true, false, [], ◌∷◌, length}
-use Rattle.std.proofs.Common.{get_or, bit_or, ◌==◌, refl, arith, Bool, not, ◌||◌}
-use Rattle.std.proofs.Common.{◌↔◌}
+use Rattle.std.proofs.Common.{take, ◌≡◌, ℕ, ◌<◌, ◌≤◌, true, false, length, get_or}
+use Rattle.std.proofs.Common.{bit_or, ◌==◌, refl, arith, Bool, not, ◌||◌, ◌↔◌}
 use Rattle.std.specs.Char.{is_ascii_alphanumeric, to_ascii_lowercase}
 use Rattle.std.proofs.lemmas.Bool.{eqb-true, cases_Bool, eq-eqb, agree_below}
 use Rattle.std.proofs.lemmas.Bool.Decides.{nat_tests}
@@ -15,9 +14,7 @@ pub first_two : (w : Text) → 2 ≤ length w →
     (get_or (lower (take 2 w)) 0 0 ≡ to_ascii_lowercase (get_or w 0 0))
     × (get_or (lower (take 2 w)) 1 0 ≡ to_ascii_lowercase (get_or w 1 0))
 unfolding lower
-first_two [] l = absurd (omega arith)
-first_two (a ∷ []) l = absurd (omega arith)
-first_two (a ∷ b ∷ w) l = (refl, refl)
+first_two w h = grind arith
 
 -- bit 5 makes a letter lower case, and digits have it
 pub low_bit : (c : ℕ) → is_ascii_alphanumeric c ≡ true → bit_or c 32 ≡ to_ascii_lowercase c
@@ -43,10 +40,7 @@ same_letter l to from c small = (
 )
 
 pub no_true : (p : Text) → (is_true (lower p) ≡ true → ⊥) → is_true (lower p) ≡ false
-no_true p h = elim (cases_Bool (is_true (lower p))) [
-  | inl is ↦ absurd (h is)
-  | inr other ↦ other
-]
+no_true p h = grind (arith, cases_Bool)
 
 abbrev pub TrueBytes : Text → ℕ → Type 0
 TrueBytes w n =

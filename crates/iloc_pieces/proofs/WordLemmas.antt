@@ -1,29 +1,28 @@
 -- The words of a plain identifier.
 use Rattle.std.proofs.Common.{◌≡◌, ◌≢◌, inl, inr, ℕ, zero, suc, ◌+◌, ◌-◌, ◌%◌, ◌<◌, ◌≤◌, ◌==◌, Bool, true}
 use Rattle.std.proofs.Common.{false, not, ◌||◌, ◌&&◌, List, [], ◌∷◌, ◌++◌, length, map, get_or, take, drop}
-use Rattle.std.proofs.Common.{replicate, Fits, w8, refl, sym, ap, ◌∙◌, subst, arith, Some, IfSome, option_map}
-use Rattle.std.proofs.Common.{eqb, leb}
+use Rattle.std.proofs.Common.{replicate, Fits, w8, refl, sym, ap, ◌∙◌, subst, arith, Some, IfSome}
+use Rattle.std.proofs.Common.{option_map, eqb, leb}
 use borrow.Author.Tests.{eqb-true}
 use Rattle.std.specs.Int.Bits.{and_zero_r}
 use Rattle.std.specs.Cmp.{first_so, second_so}
 use Rattle.std.specs.Char.{is_ascii_alphabetic, is_ascii_digit, to_ascii_lowercase, to_ascii_uppercase}
 use Rattle.std.proofs.lemmas.Bool.{agree_below, cases_lt, le-leb}
-use Rattle.std.proofs.lemmas.List.{get_or_past, get_or_append_left, get_or-append-add, get_or-drop, drop-drop}
-use Rattle.std.proofs.lemmas.List.{length-take-le, length-drop}
+use Rattle.std.proofs.lemmas.List.{get_or_past, get_or_append_left, get_or-append-add, get_or-drop}
+use Rattle.std.proofs.lemmas.List.{drop-drop, length-take-le, length-drop}
 use Rattle.std.proofs.Math.ListN.{get_or-map}
 use Rattle.std.proofs.Math.Seq.{drop-cons, take-add}
 use Rattle.std.proofs.lemmas.Simd.{Each1-get_or, get_or-replicate}
 use lib.Lanes.{Each1}
 use Rattle.iloc_spec_grammar.specs.Syntax.{Text, pieces, join, Language, Script, Region, is_word, IsWord}
-use Rattle.iloc_spec_grammar.specs.Syntax.{lower}
-use Rattle.iloc_spec_grammar.specs.Syntax.{upper, title, languages, HasWords}
+use Rattle.iloc_spec_grammar.specs.Syntax.{lower, upper, title, languages, HasWords}
 use Rattle.iloc_spec_grammar.specs.Meaning.{IdentifierMeans, normal_identifier}
 use Rattle.iloc_spec_grammar.specs.Tree.{spelled_identifier}
 use Rattle.iloc_spec_grammar.specs.Values.{identifier_text}
 use Rattle.iloc_spec_grammar.proofs.IdentifierTexts.{pieces-identifier_text, identifier_means_value}
-use Rattle.iloc_pieces.specs.PlainShape.{script_len, region_len, part, script_at, region_at, plain_identifier}
-use Rattle.iloc_pieces.specs.PlainShape.{lower_letter, upper_letter, hyphen, digit, any_byte, no_byte, above}
-use Rattle.iloc_pieces.specs.PlainShape.{row}
+use Rattle.iloc_pieces.specs.PlainShape.{script_len, region_len, part, script_at, region_at}
+use Rattle.iloc_pieces.specs.PlainShape.{plain_identifier, lower_letter, upper_letter, hyphen, digit}
+use Rattle.iloc_pieces.specs.PlainShape.{any_byte, no_byte, above, row}
 use Rattle.iloc_pieces.specs.Plain.{ShapeOf, IsShape, MayHaveShape, IsPlain, AreAboveLeast, AreAllowed}
 use Rattle.iloc_pieces.specs.Plain.{AreNormal, place_at}
 use Rattle.iloc_pieces.specs.declared.tail.Place.{Place}
@@ -59,10 +58,7 @@ part_four f j x l =
 -- a hyphen and what follows it
 at_hyphen : (a k : ℕ) (x : Text) → a < length x → get_or x a 0 ≡ 45 →
     take (a + suc k) x ≡ take a x ++ 45 ∷ take k (drop (a + 1) x)
-at_hyphen a k x l e =
-    let next : suc a ≡ a + 1 = omega arith in
-    take-add a (suc k) x ∙ ap (λ r. take a x ++ take (suc k) r) (drop-cons x a 0 l)
-    ∙ (λ i. take a x ++ e i ∷ take k (drop (next i) x))
+at_hyphen a k x l e = grind (arith, take-add, drop-cons)
 
 two_hyphens : (f k : ℕ) (x : Text) → f + 5 < length x → get_or x f 0 ≡ 45 → get_or x (f + 5) 0 ≡ 45
     → take (f + suc (4 + suc k)) x ≡ take f x ++ 45 ∷ (part 4 (f + 1) x ++ 45 ∷ part k (f + 6) x)
@@ -88,7 +84,7 @@ text_is : {ps : List Place} (f : ℕ) (s : Bool) (r : ℕ) (x : Text) → ShapeO
     f + (script_len s + region_len r) ≤ length x → Hyphens f s r x
     → take (f + (script_len s + region_len r)) x ≡ identifier_text (plain_identifier f s r x)
 unfolding identifier_text plain_identifier join
-text_is f _ _ x ShapeOf.language l h = let none : f + 0 ≡ f = omega arith in ap (λ n. take n x) none
+text_is f _ _ x ShapeOf.language l h = grind arith
 text_is f _ _ x ShapeOf.region l h = at_hyphen f 2 x (omega arith) h
 text_is f _ _ x ShapeOf.code l h = at_hyphen f 3 x (omega arith) h
 text_is f _ _ x ShapeOf.script l h = at_hyphen f 4 x (omega arith) h
@@ -109,28 +105,17 @@ map_front g (suc k) (b ∷ v) (c ∷ w) l m h =
 script_of : (a b c d : ℕ) → is_ascii_alphabetic a ≡ true → is_ascii_alphabetic b ≡ true →
     is_ascii_alphabetic c ≡ true → is_ascii_alphabetic d ≡ true → IsWord Script (a ∷ b ∷ c ∷ d ∷ [])
 unfolding is_word
-script_of a b c d h k l m = all (is_ascii_alphabetic a) (is_ascii_alphabetic b) (is_ascii_alphabetic c)
-    (is_ascii_alphabetic d) h k l m
-  where
-    all : (p q r s : Bool) → p ≡ true → q ≡ true → r ≡ true → s ≡ true →
-        (p && (q && (r && (s && true)))) ≡ true
-    all p q r s h k l m = rw (h, k, l, m) refl
+script_of a b c d h k l m = grind arith
 
 region_of : (a b : ℕ) → is_ascii_alphabetic a ≡ true → is_ascii_alphabetic b ≡ true →
     IsWord Region (a ∷ b ∷ [])
 unfolding is_word
-region_of a b h k = all (is_ascii_alphabetic a) (is_ascii_alphabetic b) h k
-  where
-    all : (p q : Bool) → p ≡ true → q ≡ true → ((p && (q && true)) || false) ≡ true
-    all p q h k = rw (h, k) refl
+region_of a b h k = grind arith
 
 code_of : (a b c : ℕ) → is_ascii_digit a ≡ true → is_ascii_digit b ≡ true → is_ascii_digit c ≡ true →
     IsWord Region (a ∷ b ∷ c ∷ [])
 unfolding is_word
-code_of a b c h k l = all (is_ascii_digit a) (is_ascii_digit b) (is_ascii_digit c) h k l
-  where
-    all : (p q r : Bool) → p ≡ true → q ≡ true → r ≡ true → (p && (q && (r && true))) ≡ true
-    all p q r h k l = rw (h, k, l) refl
+code_of a b c h k l = grind arith
 
 -- the byte b may stand at the place, and c is there in the normal text
 record Stands (p : Place) (b c : ℕ) : Type 0 where
@@ -174,7 +159,7 @@ pub record AreParts (v w : Text) (f : ℕ) (s : Bool) (r : ℕ) : Type 0 where
 
 module _ {v w : Text} {f : ℕ} {ps : List Place} (h : IsFound v w f ps) where
   byte : (i : ℕ) → i < 16 → get_or v i 0 < 256
-  byte i l = (Each1-get_or (Fits w8) v i 0 (omega (arith, h.lanes.0)) h.lanes.1).fits
+  byte i l = grind (arith, Each1-get_or)
 
   the_language : IsWord (Language languages) (take f v) × (take f w ≡ lower (take f v))
   unfolding is_word lower
@@ -357,13 +342,12 @@ parts_are _ _ ShapeOf.script_code l h =
 has_words : {v w : Text} {f : ℕ} {s : Bool} {r : ℕ} → AreParts v w f s r →
     HasWords languages (spelled_identifier (plain_identifier f s r v))
 unfolding plain_identifier
-has_words p = record { language = p.language; script = p.script; region = p.region; variants = tt }
+has_words p = grind arith
 
 normal_is : {v w : Text} (f : ℕ) (s : Bool) (r : ℕ) → AreParts v w f s r →
     plain_identifier f s r w ≡ normal_identifier (spelled_identifier (plain_identifier f s r v))
 unfolding plain_identifier
-normal_is f s r p = λ i.
-    record { language = p.language_case i; script = p.script_case i; region = p.region_case i; variants = [] }
+normal_is f s r p = grind arith
 
 plain_means : {v w : Text} {f : ℕ} {ps : List Place} (s : Bool) (r : ℕ) → ShapeOf s r ps →
     f + (script_len s + region_len r) ≤ 16 → IsFound v w f ps
@@ -386,16 +370,10 @@ plain_means {v} {w} {f} s r shape l h =
 plain_text : {v w : Text} {f : ℕ} {ps : List Place} (s : Bool) (r : ℕ) → ShapeOf s r ps →
     f + (script_len s + region_len r) ≤ 16 → IsFound v w f ps
     → take (f + (script_len s + region_len r)) w ≡ identifier_text (plain_identifier f s r w)
-plain_text {w = w} {f = f} s r shape l h =
-    text_is f s r w shape (omega (arith, h.long)) (parts_are s r shape l h).hyphens_kept
+plain_text s r h k e = grind (arith, text_is, parts_are)
 
 region_few : {ps : List Place} (s : Bool) (r : ℕ) → ShapeOf s r ps → (r ≤ 3) × (r ≢ 1)
-region_few _ _ ShapeOf.language = (omega arith, omega arith)
-region_few _ _ ShapeOf.region = (omega arith, omega arith)
-region_few _ _ ShapeOf.code = (omega arith, omega arith)
-region_few _ _ ShapeOf.script = (omega arith, omega arith)
-region_few _ _ ShapeOf.script_region = (omega arith, omega arith)
-region_few _ _ ShapeOf.script_code = (omega arith, omega arith)
+region_few s r h = grind arith
 
 -- ---- a row of the table
 
@@ -422,14 +400,10 @@ past (p ∷ ps) k zero = refl
 past (p ∷ ps) k (suc j) = past ps k j
 
 language_place : (ps : List Place) (i : ℕ) → i < 8 → get_or (row ps) i any_byte ≡ lower_letter
-language_place ps i l =
-    get_or_append_left (replicate 8 lower_letter) (ps ++ replicate (16 - length ps) any_byte) any_byte i l
-    ∙ get_or-replicate 8 i lower_letter any_byte l
+language_place ps i l = grind (arith, get_or_append_left, get_or-replicate)
 
 rest_place : (ps : List Place) (j : ℕ) → get_or (row ps) (8 + j) any_byte ≡ get_or ps j any_byte
-rest_place ps j =
-    get_or-append-add (replicate 8 lower_letter) (ps ++ replicate (16 - length ps) any_byte) j any_byte
-    ∙ past ps (16 - length ps) j
+rest_place ps j = grind (arith, get_or-append-add, past)
 
 -- what is read of bytes v by a row of the table, and what stands in their place
 pub record IsRead (v a w : Text) (f : ℕ) (t : Tail) : Type 0 where
@@ -444,27 +418,14 @@ pub record IsRead (v a w : Text) (f : ℕ) (t : Tail) : Type 0 where
 
 module _ {v a w : Text} {f : ℕ} {t : Tail} (h : IsRead v a w f t) where
   stand : (i : ℕ) → i < 16 → Stands (place_at t (8 - f + i)) (get_or v i 0) (get_or w i 0)
-  stand i l = record {
-    within = subst (λ (n : ℕ). n ≤ (place_at t (8 - f + i)).span) (h.above i l) (h.allowed i l);
-    normal = h.normal i l ∙ ap (λ n. (n + (place_at t (8 - f + i)).normal) % 256) (h.above i l);
-  }
+  stand i l = grind arith
 
   bytes_are : (i : ℕ) → get_or w i 0 < 256
-  bytes_are i =
-      elim (cases_lt i 16) [
-        | inl less ↦ omega (arith, h.normal i less)
-        | inr more ↦
-            subst (λ (b : ℕ). b < 256) (sym (get_or_past w i 0 (omega (arith, h.long)))) (omega arith)
-      ]
+  bytes_are i = grind (arith, cases_lt, get_or_past)
 
   -- a byte follows the language
   not_none : place_at t 8 ≡ no_byte → ⊥
-  not_none e =
-      let here : 8 - f + f ≡ 8 = omega (arith, h.few) in
-      let there : Stands no_byte (get_or v f 0) (get_or w f 0) =
-      subst (λ (p : Place). Stands p (get_or v f 0) (get_or w f 0)) (ap (place_at t) here ∙ e)
-      (stand f (omega (arith, h.few))) in
-      none_stands _ _ there
+  not_none e = grind (arith, stand, none_stands)
 
   found : (m : ℕ) (s : IsShape m t) → IsFound v w f s.places
   found m s = record {

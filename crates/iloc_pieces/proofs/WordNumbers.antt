@@ -30,7 +30,7 @@ bytes_take (suc k) (b ∷ p) h zero = h 0
 bytes_take (suc k) (b ∷ p) h (suc i) = bytes_take k p (λ j. h (suc j)) i
 
 pub bytes_drop : (k : ℕ) (p : Text) → Bytes p → Bytes (drop k p)
-bytes_drop k p h i = subst (λ (b : ℕ). b < 256) (sym (get_or-drop k p i 0)) (h (k + i))
+bytes_drop k p h i = grind (arith, get_or-drop)
 
 -- eight bytes, the first highest
 pub highest_first : (z : Text) → length z ≡ 8
@@ -38,8 +38,7 @@ pub highest_first : (z : Text) → length z ≡ 8
     + get_or z 3 0 * 4294967296 + get_or z 4 0 * 16777216 + get_or z 5 0 * 65536
     + get_or z 6 0 * 256 + get_or z 7 0 ≡ high_first 8 z
 unfolding high_first
-highest_first (a ∷ b ∷ c ∷ d ∷ e ∷ f ∷ g ∷ h ∷ []) long = omega arith
-highest_first z long = absurd (omega arith)
+highest_first z h = grind arith
 
 -- or the first lowest, swapped
 swapped : (z : Text) → length z ≡ 8 → Bytes z → swap_bytes w64 (number z) ≡ high_first 8 z
@@ -74,21 +73,17 @@ no_bytes zero = refl
 no_bytes (suc n) = refl
 
 nothing_left : (n k : ℕ) → n < k → n / k * k ≡ 0
-nothing_left n k l = ap (λ m. m * k) (div-eq_of_lt l) ∙ zero-mul k
+nothing_left n k l = grind (arith, div-eq_of_lt, zero-mul)
 
 split_power : (m n : ℕ) → n ≤ m → 256 ^ m ≡ 256 ^ n * 256 ^ (m - n)
-split_power m n l = let all : n + (m - n) ≡ m =
-    omega arith in ap (λ k. 256 ^ k) (sym all) ∙ pow-add 256 n (m - n)
+split_power m n l = grind (arith, pow-add)
 
 cut_number : (m n : ℕ) (p : Text) → n ≤ m → Bytes p
     → high_first m p / 256 ^ (m - n) * 256 ^ (m - n) ≡ high_first m (take n p)
 unfolding high_first
-cut_number m zero p l h =
-    let whole : m - 0 ≡ m = omega arith in
-    ap (λ k. high_first m p / 256 ^ k * 256 ^ k) whole
-    ∙ nothing_left (high_first m p) (256 ^ m) (number_fits m p h) ∙ sym (no_bytes m)
+cut_number m zero p l h = grind (arith, nothing_left, number_fits, no_bytes)
 cut_number zero (suc n) p l h = absurd (omega arith)
-cut_number (suc m) (suc n) [] l h = nothing_left 0 (256 ^ (suc m - suc n)) (pow_some (suc m - suc n))
+cut_number (suc m) (suc n) [] l h = grind (arith, nothing_left, pow_some)
 cut_number (suc m) (suc n) (b ∷ p) l h =
     let k : ℕ = 256 ^ (m - n) in
     let same : suc m - suc n ≡ m - n = omega arith in
@@ -170,7 +165,7 @@ no_number (suc k) = ap (λ m. 0 + 256 * m) (no_number k)
 
 number-zeros : (p : Text) (k : ℕ) → number (p ++ replicate k 0) ≡ number p
 number-zeros [] k = no_number k
-number-zeros (b ∷ p) k = ap (λ m. b + 256 * m) (number-zeros p k)
+number-zeros (b ∷ p) k = grind (arith, number-zeros p k)
 
 bytes_zeros : (p : Text) (k : ℕ) → Bytes p → Bytes (p ++ replicate k 0)
 bytes_zeros [] k h i = fits_replicate k 0 (omega arith) i
@@ -199,19 +194,7 @@ short_number_is p x few small word e =
 -- ---- words that have numbers
 
 pub key_fits : (p : Text) → IsWord UnicodeKey p → IsUpToEight p
-key_fits p h =
-    record {
-      some = omega (arith, length-unicode_key p h);
-      few =
-          omega (arith, length-unicode_key p h);
-      bytes = word_letters_or_digits UnicodeKey p h;
-    }
+key_fits p h = grind (arith, length-unicode_key, word_letters_or_digits)
 
 pub field_key_fits : (p : Text) → IsWord TransformKey p → IsUpToEight p
-field_key_fits p h =
-    record {
-      some = omega (arith, length-transform_key p h);
-      few =
-          omega (arith, length-transform_key p h);
-      bytes = word_letters_or_digits TransformKey p h;
-    }
+field_key_fits p h = grind (arith, length-transform_key, word_letters_or_digits)

@@ -52,19 +52,10 @@ pub is_greater : (x y : ℕ) → y < x → nat_cmp x y ≡ Greater
 is_greater x y l = sym (nat_cmp_is x y Greater l)
 
 first_counts : (a b w x y : ℕ) → a < b → x < w → a * w + x < b * w + y
-first_counts a b w x y l f = let next : suc a ≤ b = omega arith in omega (arith, mul-le-mul_right w next)
+first_counts a b w x y l f = grind (arith, mul-le-mul_right)
 
 rest_counts : (w x y : ℕ) → nat_cmp (w + x) (w + y) ≡ nat_cmp x y
-rest_counts w x y = elim (cases_lt x y) [
-  | inl less ↦
-      (let more : w + x < w + y = omega arith in is_less (w + x) (w + y) more ∙ sym (is_less x y less))
-  | inr other ↦ elim (cases_lt y x) [
-    | inl less ↦ (let more : w + y < w + x = omega arith in
-        is_greater (w + x) (w + y) more ∙ sym (is_greater x y less))
-    | inr same ↦ (let one : x ≡ y = omega arith in
-        is_equal (w + x) (w + y) (ap (λ n. w + n) one) ∙ sym (is_equal x y one))
-  ]
-]
+rest_counts w x y = grind (arith, cases_lt, is_less, is_greater, is_equal)
 
 order : (n : ℕ) (p q : Text) → length p ≤ n → length q ≤ n → AreAbove p → AreAbove q →
     nat_cmp (high_first n p) (high_first n q) ≡ slice_cmp nat_cmp p q
@@ -99,19 +90,10 @@ order (suc n) (a ∷ p) (b ∷ q) l m h k =
 pub word_order : (p q : Text) → IsUpToEight p → IsUpToEight q →
     nat_cmp (word_number p) (word_number q) ≡ word_cmp (lower p) (lower q)
 unfolding word_number
-word_order p q h k = order 8 (lower p) (lower q) (omega (arith, length-lower p, h.few))
-    (omega (arith, length-lower q, k.few)) (above_word p h.bytes) (above_word q k.bytes)
+word_order p q h k = grind (arith, order, length-lower, above_word)
 
 pub attribute_fits : (p : Text) → IsWord Attribute p → IsUpToEight p
-attribute_fits p h = record {
-  some = omega (arith, (length-attribute p h).0);
-  few = (length-attribute p h).1;
-  bytes = word_letters_or_digits Attribute p h;
-}
+attribute_fits p h = grind (arith, length-attribute, word_letters_or_digits)
 
 pub variant_fits : (p : Text) → IsWord Variant p → IsUpToEight p
-variant_fits p h = record {
-  some = omega (arith, (length-variant p h).0);
-  few = (length-variant p h).1;
-  bytes = word_letters_or_digits Variant p h;
-}
+variant_fits p h = grind (arith, length-variant, word_letters_or_digits)
