@@ -1,50 +1,27 @@
 -- The fault of a data locale by its first block, and the head before it.
-use Rattle.std.proofs.Common.{◌≡◌, ◌≢◌, ◌⊎◌, inl, inr, ℕ, ◌+◌, ◌≤◌, ◌==◌, Bool, true, false, cond, ◌&&◌}
-use Rattle.std.proofs.Common.{nat_le, List, [], ◌∷◌, ◌++◌, length, flat_map, get_or, codes, Option, None}
-use Rattle.std.proofs.Common.{Some, option_map, Ok, Err, refl, sym, ap, ◌∙◌, arith, append-nil, length-append}
-use Rattle.std.specs.Prelude.{if◌then◌else◌, option_and_then, ok_or}
-use Rattle.std.specs.Char.{is_ascii_alphanumeric, to_ascii_lowercase}
-use Rattle.std.specs.List.{AllByRecursion, list_all}
-use Rattle.std.proofs.lemmas.Bool.{cases_Bool, true≢false, false_from_ne_true}
+use Rattle.std.proofs.Common.{◌≡◌, inl, inr, ℕ, Bool, true, false, cond, ◌&&◌}
+use Rattle.std.proofs.Common.{nat_le, List, [], ◌∷◌, length}
+use Rattle.std.proofs.Common.{Ok, Err, refl, sym, ap, ◌∙◌, arith}
+use Rattle.std.specs.Prelude.{if◌then◌else◌}
+use Rattle.std.specs.Char.{is_ascii_alphanumeric}
+use Rattle.std.specs.List.{list_all}
+use Rattle.std.proofs.lemmas.Bool.{cases_Bool, true≢false}
 use Rattle.std.proofs.lemmas.Bool.Decides.{nat_tests}
-use Rattle.iloc_spec_grammar.specs.Syntax.{code_x, code_u, Text, pieces, Kind, Language, Script, Region}
-use Rattle.iloc_spec_grammar.specs.Syntax.{Variant}
+use Rattle.iloc_spec_grammar.specs.Syntax.{Text, Kind, Language, Script, Region}
 use Rattle.iloc_spec_grammar.specs.Syntax.{UnicodeKey, Attribute, is_word}
-use Rattle.iloc_spec_grammar.specs.Syntax.{IsWord, is_same, languages, lower, is_one_byte, front, blocks}
-use Rattle.iloc_spec_grammar.specs.Syntax.{head, tail_blocks, first_piece}
-use Rattle.iloc_spec_grammar.specs.Tree.{block_pieces}
+use Rattle.iloc_spec_grammar.specs.Syntax.{IsWord, languages, is_one_byte, front, blocks}
+use Rattle.iloc_spec_grammar.specs.Syntax.{first_piece}
 use Rattle.iloc_spec_grammar.specs.Meaning.{normal_values, Fault}
-use Rattle.iloc_spec_grammar.specs.Reading.{first_item, passing, skip_first, rest_of, identifier_of}
-use Rattle.iloc_spec_grammar.specs.Reading.{after_region, after_front}
+use Rattle.iloc_spec_grammar.specs.Reading.{skip_first, identifier_of}
+use Rattle.iloc_spec_grammar.specs.Reading.{after_region}
 use Rattle.iloc_spec_grammar.specs.Meaning as faults
-use Rattle.iloc_spec_grammar.proofs.ReadingLaws.{all_while, keep_while_passes}
-use Rattle.iloc_spec_grammar.proofs.ValuesLaws.{all_weaker}
-use Rattle.iloc_spec_grammar.proofs.MapLaws.{same_is}
-use Rattle.iloc_spec_grammar.proofs.PiecesLaws.{at_pieces}
-use Rattle.iloc_spec_grammar.proofs.Readings.{IsLong, long_script, long_region, long_variant, long_attribute}
+use Rattle.iloc_spec_grammar.proofs.Readings.{IsLong, long_script, long_region, long_attribute}
 use Rattle.iloc_spec_grammar.proofs.Readings.{blocks_skip}
 use Rattle.iloc_spec_grammar.proofs.Readings.{not_two, two}
-use Rattle.iloc_spec_grammar.proofs.FaultLaws.{all_blocks}
-use Rattle.iloc_spec_parts.specs.Small.{SmallLocale}
 use Rattle.iloc_spec_parts.specs.SmallComputing.{small_identifier, small_identifier_result}
-use Rattle.iloc_spec_parts.specs.SmallComputing.{has_small_variants, is_u, is_small_block, has_small_keyword}
-use Rattle.iloc_spec_parts.specs.SmallComputing.{keyword_read, block_fault, blocks_result, after_identifier}
-use Rattle.iloc_spec_parts.specs.SmallComputing.{small_result}
-use Rattle.iloc_spec_parts.proofs.Keys.{sd}
-use Rattle.iloc_spec_parts.specs.DataLocales.{agreed, made_of, named_subdivision, small_part}
-use Rattle.iloc_spec_parts.specs.DataLocales.{data_of_small}
-use Rattle.iloc_spec_parts.specs.Subdivisions.{Subdivision}
-use Rattle.iloc_spec_parts.specs.DataComputing.{data_result, data_of_result}
-use Rattle.iloc_subtags.specs.declared.parse_error.ParseError.TheVariants.{InvalidSubtag, InvalidExtension}
-use Rattle.iloc_pieces.specs.Front.{GoesOn, HasBlock}
-use Rattle.iloc_pieces.specs.Window.{text_in}
-use Rattle.iloc_pieces.specs.declared.window.Window.{Window}
-use Rattle.iloc_normalize.specs.Answered.{HasRefusal}
-use Rattle.iloc_normalize.specs.declared.Mode.TheVariants.{Data}
-use Rattle.iloc_normalize.proofs.FrontAnswers.{BeginsWell, blocks_left, data_fault, data_refused}
-use Rattle.iloc_pieces.proofs.RunWords.{and-false}
-use Rattle.iloc_spec_parts.proofs.SmallTrees.{long_key}
-use Rattle.iloc_outline.proofs.BodyLemmas.{front_past, front_first as front_long}
+use Rattle.iloc_spec_parts.specs.SmallComputing.{has_small_variants, is_u, has_small_keyword}
+use Rattle.iloc_spec_parts.specs.SmallComputing.{block_fault}
+use Rattle.iloc_outline.proofs.BodyLemmas.{front_first as front_long}
 
 and_both : (a b : Bool) → (a && b) ≡ true → (a ≡ true) × (b ≡ true)
 and_both true b e = (refl, e)

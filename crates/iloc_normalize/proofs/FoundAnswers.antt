@@ -1,26 +1,16 @@
 -- Data locales that are refused for their first piece of one byte.
-use Rattle.std.proofs.Common.{◌≡◌, ◌+◌, ◌-◌, true, false, List, [], ◌∷◌, ◌++◌, length, get_or, take, inl}
-use Rattle.std.proofs.Common.{inr, sym, ap, ◌∙◌, arith}
-use Rattle.std.specs.Prelude.{option_to_list}
+use Rattle.std.proofs.Common.{◌≡◌, true, false, get_or, inl}
+use Rattle.std.proofs.Common.{inr}
 use Rattle.std.specs.Char.{is_ascii_alphanumeric}
 use Rattle.std.proofs.lemmas.Bool.{cases_Bool}
-use Rattle.iloc_spec_grammar.specs.Syntax.{Text, pieces, SpelledIdentifier, identifier_pieces, Variant}
-use Rattle.iloc_spec_grammar.specs.Syntax.{is_one_byte}
-use Rattle.iloc_spec_grammar.specs.Syntax.{is_word, first_piece}
-use Rattle.iloc_spec_grammar.specs.Reading.{after_front, after_region, front_of, passing, starts_block}
-use Rattle.iloc_spec_grammar.proofs.PiecesLaws.{at_pieces}
-use Rattle.iloc_spec_grammar.proofs.ReadingLaws.{after_front-append, after_front-pieces, all_while}
-use Rattle.iloc_spec_grammar.proofs.ReadingLaws.{front_of-append, front_of-pieces, starts_ends}
+use Rattle.iloc_spec_grammar.specs.Syntax.{Text, pieces}
+use Rattle.iloc_spec_grammar.specs.Reading.{after_front, starts_block}
 use Rattle.iloc_spec_parts.specs.SmallComputing.{is_u}
-use Rattle.iloc_pieces.specs.Plain.{IsPlain}
-use Rattle.iloc_pieces.specs.declared.plain.Plain.{Plain}
 use Rattle.iloc_pieces.specs.Front.{IsFound, HasBlock}
-use Rattle.iloc_pieces.specs.Window.{text_in}
 use Rattle.iloc_pieces.specs.declared.window.Window.{Window}
-use Rattle.iloc_subtags.specs.declared.parse_error.ParseError.TheVariants.{InvalidExtension, InvalidSubtag}
+use Rattle.iloc_subtags.specs.declared.parse_error.ParseError.TheVariants.{InvalidSubtag}
 use Rattle.iloc_normalize.specs.Answered.{HasRefusal}
 use Rattle.iloc_normalize.specs.declared.Mode.TheVariants.{Data}
-use Rattle.iloc_normalize.proofs.CutLemmas.{pieces_both}
 use Rattle.iloc_normalize.proofs.FrontAnswers.{misfit_refused, other_block_refused}
 
 -- if it follows the words of an identifier, it is the first block

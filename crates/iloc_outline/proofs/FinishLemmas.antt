@@ -46,7 +46,7 @@ use Rattle.iloc_outline.specs.declared.outline.Outlined.TheVariants.{Normal}
 use Rattle.iloc_spans.specs.declared.spans.Spans.{Spans}
 use Rattle.iloc_subtags.specs.Judging.{Refusal}
 use Rattle.iloc_subtags.specs.declared.parse_error.ParseError.{ParseError}
-use Rattle.iloc_subtags.specs.declared.parse_error.ParseError.TheVariants.{InvalidSubtag, OutOfMemory}
+use Rattle.iloc_subtags.specs.declared.parse_error.ParseError.TheVariants.{OutOfMemory}
 use Rattle.iloc_outline.proofs.OutlineLemmas.{
   all_head,
   alone_in_order,

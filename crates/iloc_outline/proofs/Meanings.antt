@@ -51,7 +51,6 @@ use Rattle.iloc_spec_grammar.specs.Meaning.{
   in_head,
   normal_identifier,
 }
-use Rattle.iloc_spec_grammar.specs.Meaning as faults
 use Rattle.iloc_spec_grammar.specs.Tree.{meaning}
 use Rattle.iloc_spec_grammar.specs.Values.{identifier_text, text}
 use Rattle.iloc_spec_grammar.specs.Reading.{identifier_of, written_of}

@@ -106,7 +106,6 @@ use Rattle.iloc_outline.specs.Parts.{
   block_parts,
   printed_part,
 }
-use Rattle.iloc_spans.specs.declared.span.Role.TheVariants as roles
 use Rattle.iloc_outline.proofs.PartsInOrder.{
   variants_printed,
   attributes_printed,

@@ -1,5 +1,5 @@
 -- Room for spans was refused: for how many at most.
-use Rattle.std.proofs.Common.{◌≡◌, ℕ, Bool, ◌+◌, ◌≤◌, ◌++◌, ◌∷◌, [], Some, length, ap, sym, ◌∙◌, arith}
+use Rattle.std.proofs.Common.{◌≡◌, ℕ, Bool, ◌+◌, ◌≤◌, ◌++◌, ◌∷◌, [], Some, length, ap, ◌∙◌, arith}
 use Rattle.std.proofs.Common.{length-append}
 use Rattle.iloc_memory.proofs.Within.{within_more}
 use Rattle.iloc_spans.specs.Spans.{held_spans}
@@ -10,7 +10,7 @@ use Rattle.iloc_pieces.specs.Cursor.{pieces_left}
 use Rattle.iloc_pieces.specs.declared.place.Cursor.{Cursor}
 use Rattle.iloc_outline.specs.Identifier.{IsAfterFront}
 use Rattle.iloc_outline.specs.Parts.{front_pieces}
-use Rattle.iloc_outline.specs.Reading.{AreWordsRead, EndsAtBlock, IsRefused}
+use Rattle.iloc_outline.specs.Reading.{AreWordsRead, EndsAtBlock, IsRoomRefused}
 use Rattle.iloc_outline.specs.declared.reading.Found.{Found}
 use Rattle.iloc_outline.specs.declared.reading.Found.TheVariants.{End, Next, Bad, Repeated, Full}
 use Rattle.iloc_outline.specs.Outlines.{ReadsHead}
@@ -21,7 +21,8 @@ use Rattle.iloc_spec_grammar.specs.Syntax.{Text, head, pieces}
 
 -- for fewer spans, of which more are there
 pub refused_before : (R : ℕ → Type 0) (old mid : Spans) (m n : ℕ)
-    → length (held_spans mid) + m ≤ length (held_spans old) + n → IsRefused R mid m → IsRefused R old n
+    → length (held_spans mid) + m ≤ length (held_spans old) + n → IsRoomRefused R mid m
+    → IsRoomRefused R old n
 refused_before R old mid m n few h =
     within_more R (length (held_spans mid) + m) (length (held_spans old) + n) few h
 

@@ -33,7 +33,6 @@ use Rattle.std.proofs.lemmas.Bool.Decides.{nat_tests}
 use Rattle.iloc_pieces.specs.Cursor.{IsShortPiece}
 use Rattle.iloc_outline.specs.Reading.{IsFieldOfRole}
 use Rattle.iloc_spans.specs.declared.span.Role.{Role}
-use Rattle.iloc_spans.specs.declared.span.Role.TheVariants as roles
 use Rattle.iloc_pieces.proofs.CursorLemmas.{between_short, short_word}
 use Rattle.iloc_outline.specs.Parts.{Part}
 use Rattle.iloc_outline.specs.Spans.{AddsParts, AreShort, IsSpan, Spell}

@@ -40,8 +40,8 @@ abbrev pub IsTooMuch : Spans → ℕ → Type 0
 IsTooMuch old n = 64 < length (held_spans old) + n
 
 -- room was refused for the spans that there are, and at most so many more
-abbrev pub IsRefused : (ℕ → Type 0) → Spans → ℕ → Type 0
-IsRefused Refused old n = RefusedWithin Refused (length (held_spans old) + n)
+abbrev pub IsRoomRefused : (ℕ → Type 0) → Spans → ℕ → Type 0
+IsRoomRefused Refused old n = RefusedWithin Refused (length (held_spans old) + n)
 
 -- Variants and attributes.
 

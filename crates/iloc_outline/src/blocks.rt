@@ -4,7 +4,7 @@ ghost use Rattle.std.specs.Char.{is_ascii_alphanumeric};
 ghost use Rattle.iloc_spec_grammar.specs.Syntax.{code_u, is_one_byte};
 ghost use Rattle.iloc_outline.specs.Blocks.{AreBegun, AreBlocksRead, HasSingletonBefore, IsBlockReadAt};
 ghost use Rattle.iloc_pieces.specs.Cursor.{IsLater, piece_left, pieces_left, whole_text};
-ghost use Rattle.iloc_outline.specs.Reading.{FollowsSingleton, IsRefused, reader_at};
+ghost use Rattle.iloc_outline.specs.Reading.{FollowsSingleton, IsRoomRefused, reader_at};
 ghost use Rattle.iloc_outline.specs.Parts.{rank};
 
 use crate::growth::Growth;
@@ -52,7 +52,7 @@ fn read_body<G: Growth>(
     ensures read { IsBlockReadAt byte start (reader_at cursor.old spans.old in_order.old)
         (reader_at cursor.new spans.new in_order.new) result }
     ensures refused { result ≡ Found.Full
-        → IsRefused G.refused spans.old (1 + length (pieces_left cursor.old)) }
+        → IsRoomRefused G.refused spans.old (1 + length (pieces_left cursor.old)) }
 {
     if byte == b'u' {
         return read_unicode(growth, start, cursor, spans, in_order);
@@ -78,7 +78,7 @@ fn read_another<G: Growth>(
     ensures read { IsBlockReadAt byte start (reader_at cursor.old spans.old in_order.old)
         (reader_at cursor.new spans.new in_order.new) result }
     ensures refused { result ≡ Found.Full
-        → IsRefused G.refused spans.old (1 + length (pieces_left cursor.old)) }
+        → IsRoomRefused G.refused spans.old (1 + length (pieces_left cursor.old)) }
 {
     let mut next = *cursor;
     let found = read_apart(growth, byte, start, &mut next, spans, in_order);
@@ -111,7 +111,7 @@ fn read_apart<G: Growth>(
     ensures read { IsBlockReadAt byte start (reader_at cursor.old spans.old in_order.old)
         (reader_at cursor.new spans.new in_order.new) result }
     ensures refused { result ≡ Found.Full
-        → IsRefused G.refused spans.old (1 + length (pieces_left cursor.old)) }
+        → IsRoomRefused G.refused spans.old (1 + length (pieces_left cursor.old)) }
 {
     match byte {
         b't' => read_transform(growth, start, cursor, spans, in_order),
@@ -133,7 +133,7 @@ pub fn read_blocks<G: Growth>(
     requires begun { AreBegun (whole_text cursor.old) spans.old }
     ensures read { AreBlocksRead cursor.old spans.old spans.new in_order.old in_order.new result }
     ensures refused { result ≡ Blocks.Full
-        → IsRefused G.refused spans.old (length (pieces_left cursor.old)) }
+        → IsRoomRefused G.refused spans.old (length (pieces_left cursor.old)) }
 {
     let mut last = 0;
     'singletons: loop {

@@ -2,7 +2,7 @@
 ghost use Rattle.std.specs.Prelude.{◌≡◌, false, length};
 ghost use Rattle.iloc_spec_grammar.specs.Syntax.{is_word};
 ghost use Rattle.iloc_pieces.specs.Cursor.{IsLater, IsShortPiece, piece_left, pieces_left};
-ghost use Rattle.iloc_outline.specs.Reading.{AreFieldsRead, IsOfField, IsRefused, role_key};
+ghost use Rattle.iloc_outline.specs.Reading.{AreFieldsRead, IsOfField, IsRoomRefused, role_key};
 ghost use Rattle.iloc_outline.specs.Fields.{PrintsAsItIs, IsValueRead};
 
 use crate::growth::Growth;
@@ -95,7 +95,7 @@ pub fn read_fields<G: Growth>(
     ensures read { AreFieldsRead role cursor.old cursor.new spans.old spans.new in_order.old
         in_order.new result }
     ensures refused { result ≡ Found.Full
-        → IsRefused G.refused spans.old (length (pieces_left cursor.old)) }
+        → IsRoomRefused G.refused spans.old (length (pieces_left cursor.old)) }
 {
     let from = spans.count;
     let mut last = 0;

@@ -4,7 +4,7 @@ ghost use Rattle.iloc_pieces.specs.Cursor.{IsLater, pieces_left};
 ghost use Rattle.iloc_pieces.specs.declared.place.Cursor.{Cursor};
 ghost use Rattle.iloc_outline.specs.Gathering.{Walks};
 ghost use Rattle.iloc_spans.specs.Inserting.{IsInserted, IsTried};
-ghost use Rattle.iloc_outline.specs.Reading.{AreWordsRead, IsOfWord, IsRefused};
+ghost use Rattle.iloc_outline.specs.Reading.{AreWordsRead, IsOfWord, IsRoomRefused};
 ghost use Rattle.iloc_spans.specs.Spans.{held_spans};
 ghost use Rattle.iloc_spans.specs.declared.spans.Spans.{Spans};
 
@@ -26,7 +26,7 @@ pub trait Growth: Copy {
         requires { 64 ≤ spans.old.count }
         ensures put { result ≡ true → held_spans spans.new ≡ held_spans spans.old ++ span ∷ [] }
         ensures full { result ≡ false → held_spans spans.new ≡ held_spans spans.old }
-        ensures refused { result ≡ false → IsRefused refused spans.old 1 };
+        ensures refused { result ≡ false → IsRoomRefused refused spans.old 1 };
 
     /// Puts a span where it belongs among those from `from` on. `Full` says also that words may be too many to try each
     /// place.
@@ -34,7 +34,7 @@ pub trait Growth: Copy {
         requires from { from ≤ spans.old.count }
         requires many { 64 ≤ spans.old.count }
         ensures inserted { IsInserted from span (held_spans spans.old) (held_spans spans.new) result }
-        ensures refused { result ≡ Inserted.Full → IsTried span.role → IsRefused refused spans.old 1 };
+        ensures refused { result ≡ Inserted.Full → IsTried span.role → IsRoomRefused refused spans.old 1 };
 
     /// Reads the rest of the words of this role, of which those from `from` on were put in order.
     fn read_words(
@@ -53,7 +53,7 @@ pub trait Growth: Copy {
             → Walks role first cursor.old (held_spans old) (held_spans spans.old) last o n
             → AreWordsRead role first cursor.new old spans.new o in_order.new result }
         ensures refused { result ≡ Found.Full
-            → IsRefused refused spans.old (length (pieces_left cursor.old)) };
+            → IsRoomRefused refused spans.old (length (pieces_left cursor.old)) };
 }
 
 /// Puts a span behind the others. `false` if there is no room for it: in place there is room for 64, and room that grows
@@ -63,7 +63,7 @@ pub fn put<G: Growth>(growth: G, spans: &mut Spans, span: Span) -> bool
     ensures put { result ≡ true → held_spans spans.new ≡ held_spans spans.old ++ span ∷ [] }
     ensures full { result ≡ false → (64 ≤ length (held_spans spans.old))
         × (held_spans spans.new ≡ held_spans spans.old) }
-    ensures refused { result ≡ false → IsRefused G.refused spans.old 1 }
+    ensures refused { result ≡ false → IsRoomRefused G.refused spans.old 1 }
 {
     if spans.count >= MOST {
         return growth.put(spans, span.apart());

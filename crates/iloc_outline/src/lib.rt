@@ -10,7 +10,7 @@
 //!
 //! Readers take as a type what happens where 64 spans in place are not enough (`growth`). With `InPlace` the text is `Full`.
 //! With `Growing` the room grows (`more`), and many words are put in order by a tree (`group`). Then `Full` comes only if
-//! memory was refused: room for the spans that there were and those of the pieces left (`IsRefused`), so for at most as many
+//! memory was refused: room for the spans that there were and those of the pieces left (`IsRoomRefused`), so for at most as many
 //! as the text has pieces. A program that reads in place needs no allocator.
 //!
 //! `iloc_normalize` asks it of each identifier and each locale that is not plain, and whose beginning does not refuse it.

@@ -3,7 +3,7 @@ ghost use Rattle.std.specs.Prelude.{◌≡◌, ◌≢◌, ◌+◌, ◌-◌, ◌<
 ghost use Rattle.std.specs.Char.{to_ascii_lowercase};
 ghost use Rattle.iloc_spec_grammar.specs.Syntax.{code_x, is_other_singleton};
 ghost use Rattle.iloc_pieces.specs.Cursor.{IsSpanned, pieces_left, whole_text};
-ghost use Rattle.iloc_outline.specs.Reading.{FollowsSingleton, IsBodyAt, IsPrivateBody, IsPutOther, IsRefused, block_span, reader_at};
+ghost use Rattle.iloc_outline.specs.Reading.{FollowsSingleton, IsBodyAt, IsPrivateBody, IsPutOther, IsRoomRefused, block_span, reader_at};
 
 use crate::growth::{Growth, put};
 use crate::reading::Found;
@@ -27,7 +27,7 @@ pub fn read_private<G: Growth>(
         → IsSpanned (whole_text cursor.old) start (cursor.old.at - 1) ((c ∷ []) ∷ [])
         → (o : Bool) → IsPrivateBody c cursor.old spans.old spans.new o o result }
     ensures refused { result ≡ Found.Full
-        → IsRefused G.refused spans.old (1 + length (pieces_left cursor.old)) }
+        → IsRoomRefused G.refused spans.old (1 + length (pieces_left cursor.old)) }
 {
     'words: while is_private(*cursor) {
         if is_last(*cursor) {
@@ -64,7 +64,7 @@ pub fn read_other<G: Growth>(
     ensures read { IsBodyAt byte start (reader_at cursor.old spans.old in_order.old)
         (reader_at cursor.new spans.new in_order.new) result }
     ensures refused { result ≡ Found.Full
-        → IsRefused G.refused spans.old (1 + length (pieces_left cursor.old)) }
+        → IsRoomRefused G.refused spans.old (1 + length (pieces_left cursor.old)) }
 {
     let mut is_good = false;
     let mut edited = false;
@@ -122,7 +122,7 @@ fn put_other<G: Growth>(
 ) -> Found
     ensures put { IsPutOther (block_span byte start end edited) spans.old spans.new in_order.old
         in_order.new found result }
-    ensures refused { result ≢ found → IsRefused G.refused spans.old 1 }
+    ensures refused { result ≢ found → IsRoomRefused G.refused spans.old 1 }
 {
     if edited {
         *in_order = false;

@@ -2,7 +2,7 @@
 ghost use Rattle.std.specs.Prelude.{◌≡◌, ◌+◌, ◌<◌, false, length};
 ghost use Rattle.iloc_spec_grammar.specs.Syntax.{Language, code_t, is_word, languages};
 ghost use Rattle.iloc_pieces.specs.Cursor.{piece_left, pieces_left};
-ghost use Rattle.iloc_outline.specs.Reading.{FollowsSingleton, IsBodyAt, IsRefused, block_span, reader_at};
+ghost use Rattle.iloc_outline.specs.Reading.{FollowsSingleton, IsBodyAt, IsRoomRefused, block_span, reader_at};
 
 use crate::fields::read_fields;
 use crate::growth::{Growth, put};
@@ -41,7 +41,7 @@ pub fn read_transform<G: Growth>(
     ensures read { IsBodyAt code_t start (reader_at cursor.old spans.old in_order.old)
         (reader_at cursor.new spans.new in_order.new) result }
     ensures refused { result ≡ Found.Full
-        → IsRefused G.refused spans.old (1 + length (pieces_left cursor.old)) }
+        → IsRoomRefused G.refused spans.old (1 + length (pieces_left cursor.old)) }
 {
     if !is_language(*cursor) {
         return read_fields_alone(growth, start, cursor, spans, in_order);
@@ -73,7 +73,7 @@ fn read_fields_alone<G: Growth>(
     ensures read { IsBodyAt code_t start (reader_at cursor.old spans.old in_order.old)
         (reader_at cursor.new spans.new in_order.new) result }
     ensures refused { result ≡ Found.Full
-        → IsRefused G.refused spans.old (1 + length (pieces_left cursor.old)) }
+        → IsRoomRefused G.refused spans.old (1 + length (pieces_left cursor.old)) }
 {
     if is_single(*cursor) {
         return Found::Bad;

@@ -2,7 +2,7 @@
 ghost use Rattle.std.specs.Prelude.{◌≡◌, ◌+◌, length};
 ghost use Rattle.iloc_spec_grammar.specs.Syntax.{code_u};
 ghost use Rattle.iloc_pieces.specs.Cursor.{pieces_left};
-ghost use Rattle.iloc_outline.specs.Reading.{FollowsSingleton, IsBodyAt, IsRefused, reader_at};
+ghost use Rattle.iloc_outline.specs.Reading.{FollowsSingleton, IsBodyAt, IsRoomRefused, reader_at};
 
 use crate::fields::read_fields;
 use crate::growth::{Growth, put};
@@ -25,7 +25,7 @@ pub fn read_unicode<G: Growth>(
     ensures read { IsBodyAt code_u start (reader_at cursor.old spans.old in_order.old)
         (reader_at cursor.new spans.new in_order.new) result }
     ensures refused { result ≡ Found.Full
-        → IsRefused G.refused spans.old (1 + length (pieces_left cursor.old)) }
+        → IsRoomRefused G.refused spans.old (1 + length (pieces_left cursor.old)) }
 {
     if is_single(*cursor) {
         return Found::Bad;

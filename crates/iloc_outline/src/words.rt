@@ -4,7 +4,7 @@ ghost use Rattle.iloc_spec_grammar.specs.Syntax.{IsWord, is_word};
 ghost use Rattle.iloc_pieces.specs.Cursor.{IsLater, piece_left, pieces_left};
 ghost use Rattle.iloc_outline.specs.Gathering.{Walks};
 ghost use Rattle.iloc_spans.specs.Group.{group_spans};
-ghost use Rattle.iloc_outline.specs.Reading.{AreWordsRead, IsOfWord, IsRefused, role_kind, word_span};
+ghost use Rattle.iloc_outline.specs.Reading.{AreWordsRead, IsOfWord, IsRoomRefused, role_kind, word_span};
 ghost use Rattle.iloc_spans.specs.Spans.{held_spans};
 ghost use Rattle.iloc_spans.specs.declared.spans.Spans.{Spans};
 ghost use Rattle.iloc_pieces.specs.declared.place.Cursor.{Cursor};
@@ -61,7 +61,7 @@ pub fn read_words<G: Growth>(
     ensures read { AreWordsRead role cursor.old cursor.new spans.old spans.new in_order.old
         in_order.new result }
     ensures refused { result ≡ Found.Full
-        → IsRefused G.refused spans.old (length (pieces_left cursor.old)) }
+        → IsRoomRefused G.refused spans.old (length (pieces_left cursor.old)) }
 {
     let from = spans.count;
     let mut last = 0;
@@ -103,7 +103,7 @@ pub fn read_more_words<M: Memory>(
         → Walks role first cursor.old (held_spans old) (held_spans spans.old) last o n
         → AreWordsRead role first cursor.new old spans.new o in_order.new result }
     ensures refused { result ≡ Found.Full
-        → IsRefused M.refused spans.old (length (pieces_left cursor.old)) }
+        → IsRoomRefused M.refused spans.old (length (pieces_left cursor.old)) }
 {
     *in_order = false;
     let Some(mut group) = spans.take_from(memory, from) else {
@@ -132,7 +132,7 @@ fn put_group<M: Memory>(memory: M, group: &Group, spans: &mut Spans, found: Foun
     ensures put { (result ≡ Found.Full) ⊎ (result ≡ found)
         × (held_spans spans.new ≡ held_spans spans.old ++ group_spans group.now) }
     ensures refused { result ≢ found
-        → IsRefused M.refused spans.old (length (group_spans group.now)) }
+        → IsRoomRefused M.refused spans.old (length (group_spans group.now)) }
 {
     if group.put_into(memory, spans) {
         found

@@ -1,5 +1,5 @@
 use Rattle.std.proofs.Common.{◌≡◌, ℕ, length, length-take-le, sym, subst, take, arith}
-use Rattle.iloc_spec_grammar.specs.Syntax.{Text, languages}
+use Rattle.iloc_spec_grammar.specs.Syntax.{languages}
 use Rattle.iloc_spec_grammar.specs.Values.{identifier_text}
 use Rattle.iloc_spec_grammar.proofs.AnySteps.{length-identifier_means}
 use Rattle.iloc_outline.specs.Outlines.{BeginsWithLanguage}

@@ -1,5 +1,5 @@
 -- Variants up to the end or to a block, or what is wrong.
-use Rattle.std.proofs.Common.{arith, ◌≡◌, true, false, sym, ◌∙◌}
+use Rattle.std.proofs.Common.{arith, ◌≡◌, false, sym, ◌∙◌}
 use Rattle.iloc_pieces.specs.declared.place.Cursor.{Cursor}
 use Rattle.iloc_outline.specs.Identifier.{IsAfterFront, IsFrontRead}
 use Rattle.iloc_outline.specs.Reading.{unless_end}

@@ -1,21 +1,4 @@
-use Rattle.std.proofs.Common.{
-  arith,
-  rules,
-  ◌≡◌,
-  ◌≢◌,
-  ◌++◌,
-  false,
-  length,
-  take,
-  drop,
-  ap,
-  ◌∙◌,
-  sym,
-  subst,
-  inl,
-  inr,
-  refl,
-}
+use Rattle.std.proofs.Common.{arith, rules, ◌≡◌, ◌≢◌, ◌++◌, length, take, drop, ap, ◌∙◌, sym, subst, inl, inr, refl}
 use Rattle.std.specs.Prelude.{⊤}
 use denote.Enum.Bare.{same_false, same_true}
 use Rattle.iloc_spans.specs.contracts.span.Role.{the_type}
@@ -72,7 +55,8 @@ words-init g c =
       later = c.requires.later;
       walks = λ first old last o n is w.
           let long = sym (length-held old ∙ is) in
-          let out = walks_out _ _ _ _ _ _ _ _ w (held_spans c.take_from.new.self) (group_spans c.in-Some.group)
+          let out = walks_out _ _ _ _ _ _ _ _ w (held_spans c.take_from.new.self)
+          (group_spans c.in-Some.group)
           (taken.1 ∙ ap (λ k. take k held) long)
           (taken.0 ∙ ap (λ k. spans_in_order (drop k held)) long) in
           (out.0, (last, out.1));
