@@ -1,24 +1,10 @@
 -- What may stand at the place of a fault.
 use Rattle.std.proofs.Common.{◌≡◌, ◌≢◌, inl, inr, ℕ, suc, ◌+◌, List, [], ◌∷◌, ◌++◌, length, take}
-use Rattle.std.proofs.Common.{refl, sym, ap, ◌∙◌, subst, append_assoc, append-nil, arith, take_all, ◌==◌}
-use Rattle.std.specs.List.{AllByRecursion, list_any}
+use Rattle.std.proofs.Common.{refl, sym, ap, ◌∙◌, subst, append_assoc, append-nil, arith, take_all}
+use Rattle.std.specs.List.{AllByRecursion}
 use Rattle.std.proofs.lemmas.List.Concat.{flat_map-append}
 use Rattle.std.proofs.Math.Seq.{take-append-add}
-use Rattle.iloc_spec_grammar.specs.Syntax.{
-  Text,
-  pieces,
-  join,
-  dashes,
-  IsHyphenFree,
-  is_word,
-  is_one_byte,
-  TransformKey,
-  UnicodeKey,
-  code_t,
-  code_u,
-  code_x,
-}
-use Rattle.iloc_spec_grammar.specs.Syntax as grammar
+use Rattle.iloc_spec_grammar.specs.Syntax.{Text, pieces, join, dashes, IsHyphenFree}
 use Rattle.iloc_spec_grammar.proofs.PartTexts.{join-dashes}
 use Rattle.iloc_spec_grammar.proofs.PiecesLaws.{pieces-join, pieces_hyphen_free}
 use Rattle.iloc_spec_grammar.proofs.ReadBack.{all_append}
@@ -28,17 +14,8 @@ use Rattle.iloc_faults.specs.Places.{GoOn, StandsAtPiece, IsFaultPlace}
 use Rattle.iloc_faults.proofs.OnePlace.{fewer}
 use Rattle.iloc_expected.specs.declared.kinds.PieceKind.{PieceKind}
 use Rattle.iloc_expected.specs.declared.kinds.PieceKind.TheVariants as kinds
-use Rattle.iloc_expected.specs.Kinds.{
-  Place,
-  AtBeginning,
-  InIdentifier,
-  InExtension,
-  place_after,
-  kind_at,
-  identifier_kind,
-  transform_kind,
-  unicode_kind,
-}
+use Rattle.iloc_expected.specs.Kinds.{Place, place_after, kind_at, identifier_kind, transform_kind}
+use Rattle.iloc_expected.specs.Kinds.{unicode_kind}
 use Rattle.iloc_expected.specs.Standing.{without_empty, pieces_before, MayStand}
 use Rattle.iloc_expected.proofs.Following.{by_test}
 use Rattle.iloc_expected.proofs.Walk.{front_free, without_end}
@@ -88,8 +65,8 @@ left_out : (ps : List Text) → (rest : List Text) × (ps ≡ without_empty ps +
 left_out [] = ([], refl)
 left_out ([] ∷ []) = ([] ∷ [], refl)
 left_out ((c ∷ p) ∷ []) = ([], refl)
-left_out ([] ∷ q ∷ ps) = let r = left_out (q ∷ ps) in (r.0, ap (λ l. [] ∷ l) r.1)
-left_out ((c ∷ p) ∷ q ∷ ps) = let r = left_out (q ∷ ps) in (r.0, ap (λ l. (c ∷ p) ∷ l) r.1)
+left_out ([] ∷ q ∷ ps) = grind (arith, left_out (q ∷ ps))
+left_out ((c ∷ p) ∷ q ∷ ps) = grind (arith, left_out (q ∷ ps))
 
 pub before_end : (mode : Mode) (t : Text) (start : ℕ) → start ≡ length t → GoOn mode (pieces t) →
     GoOn mode (pieces_before t start)
@@ -103,24 +80,16 @@ before_end mode t start s g =
 
 -- a piece is not the end
 word_no_end : (p : Text) → identifier_kind p ≢ kinds.End
-word_no_end p e = by_test (is_word grammar.Script p) e (λ a f. cc)
-    (λ a f. by_test (is_word grammar.Region p) f (λ b g. cc) (λ b g. cc))
+word_no_end p e = grind (arith, by_test)
 
 transform_no_end : (qs : List Text) (p : Text) → transform_kind qs p ≢ kinds.End
-transform_no_end [] p e = by_test (is_word TransformKey p) e (λ a f. cc) (λ a f. cc)
-transform_no_end (q ∷ qs) p e = by_test (is_word TransformKey p) e (λ a f. cc)
-    (λ a f. by_test (list_any (is_word TransformKey) (q ∷ qs)) f (λ b g. cc) (λ b g. word_no_end p g))
+transform_no_end qs p = grind (arith, by_test, word_no_end)
 
 unicode_no_end : (qs : List Text) (p : Text) → unicode_kind qs p ≢ kinds.End
-unicode_no_end qs p e = by_test (is_word UnicodeKey p) e (λ a f. cc)
-    (λ a f. by_test (list_any (is_word UnicodeKey) qs) f (λ b g. cc) (λ b g. cc))
+unicode_no_end qs p e = grind (arith, by_test)
 
 no_end : (w : Place) (p : Text) → kind_at w p ≢ kinds.End
-no_end AtBeginning p e = cc
-no_end InIdentifier p e = by_test (is_one_byte p) e (λ a f. cc) (λ a f. word_no_end p f)
-no_end (InExtension c qs) p e = by_test (c == code_x) e (λ x f. cc) (λ x f.
-    by_test (is_one_byte p) f (λ a g. cc) (λ a g. by_test (c == code_t) g (λ t h. transform_no_end qs p h)
-    (λ t h. by_test (c == code_u) h (λ u k. unicode_no_end qs p k) (λ u k. cc))))
+no_end w p = grind (arith, by_test, word_no_end, transform_no_end, unicode_no_end)
 
 pub some_kind : (mode : Mode) (ps : List Text) → GoOn mode ps → (kind : PieceKind) × MayStand mode ps kind
 some_kind mode ps g = by g.rest g.begins
@@ -145,9 +114,7 @@ some_kind mode ps g = by g.rest g.begins
 
 pub at_piece : (mode : Mode) (t : Text) (start end : ℕ) → (p : StandsAtPiece mode t start end) →
     (pieces_before t start ≡ p.before) × ¬ (GoOn mode (pieces_before t start ++ (p.piece ∷ [])))
-at_piece mode t start end p =
-    let e = before_piece t p.piece p.before p.after start p.cut p.from in
-    (e, λ g. p.no_longer (subst (λ (qs : List Text). GoOn mode (qs ++ (p.piece ∷ []))) e g))
+at_piece mode t start end p = grind (arith, before_piece)
 
 pub at_place : (mode : Mode) (t : Text) (start end : ℕ) → IsFaultPlace mode t start end →
     (kind : PieceKind) × MayStand mode (pieces_before t start) kind

@@ -1,6 +1,6 @@
 -- A piece that comes next is of a kind that may come.
-use Rattle.std.proofs.Common.{◌≡◌, ◌≢◌, ℕ, Bool, true, false, ◌&&◌, List, [], ◌∷◌, length, slice_index, Some}
-use Rattle.std.proofs.Common.{refl, sym, ◌∙◌, true≢false, inl, inr, arith}
+use Rattle.std.proofs.Common.{◌≡◌, ◌≢◌, ℕ, Bool, true, false, List, [], length, slice_index}
+use Rattle.std.proofs.Common.{Some, refl, inl, inr, arith}
 use Rattle.std.specs.Char.{is_ascii_alphanumeric}
 use Rattle.std.proofs.lemmas.Bool.{cases_Bool, and_parts, not-true, false_from_ne_true}
 use Rattle.std.proofs.lemmas.Bool.Decides.{nat_tests}
@@ -30,42 +30,13 @@ use Rattle.iloc_spec_grammar.proofs.WordsLaws.{
   length-transform_key,
 }
 use Rattle.iloc_normalize.specs.declared.Mode.{Mode}
-use Rattle.iloc_normalize.specs.declared.Mode.TheVariants.{Langid, Locale, Data}
 use Rattle.iloc_faults.specs.declared.state.Part.{Part}
-use Rattle.iloc_faults.specs.declared.state.Part.TheVariants.{
-  Start,
-  Head,
-  Transform,
-  Source,
-  FieldKey,
-  FieldValue,
-  Unicode,
-  Keyword,
-  Other,
-  OtherWord,
-  Private,
-  PrivateWord,
-  Subdivision,
-  SubdivisionKey,
-  SubdivisionValue,
-}
+use Rattle.iloc_faults.specs.declared.state.Part.TheVariants.{Start, Head, Transform, Source}
 use Rattle.iloc_faults.specs.declared.state.Stage.{Stage}
 use Rattle.iloc_faults.specs.declared.state.Stage.TheVariants.{Language, Script, Region}
-use Rattle.iloc_faults.specs.Next.{
-  Reached,
-  is_seen,
-  is_new,
-  may_end,
-  takes_any,
-  begins_block,
-  block_next,
-  after_script_next,
-  after_region_next,
-  word_next,
-  inside_next,
-  piece_next,
-  next,
-}
+use Rattle.iloc_faults.specs.Next.{Reached, is_seen, is_new, takes_any, begins_block, block_next}
+use Rattle.iloc_faults.specs.Next.{after_script_next, after_region_next, word_next, inside_next, piece_next}
+use Rattle.iloc_faults.specs.Next.{next}
 use Rattle.iloc_faults.specs.States.{reached}
 use Rattle.iloc_expected.specs.declared.kinds.PieceKind.TheVariants as kinds
 use Rattle.iloc_expected.specs.Kinds.{Place, kind_at, identifier_kind}
@@ -89,8 +60,7 @@ use Rattle.iloc_expected.proofs.Following.{
 
 pub singleton_is : {w : Place} → IsOutside w → (p : Text) → is_one_byte p ≡ true →
     kind_at w p ≡ kinds.Singleton
-singleton_is (in_head e) p one = rw (e, one) refl
-singleton_is (in_block c qs e x) p one = rw (e, x, one) refl
+singleton_is h p k = grind (arith, in_head, in_block)
 
 -- no singleton is left only if all were seen
 abbrev pub IsLeft : List ℕ → Bool → Type 0
@@ -99,19 +69,7 @@ IsLeft seen left = left ≡ false → (c : ℕ) → is_ascii_alphanumeric c ≡ 
 block_may : (mode : Mode) (part : Part) (seen : List ℕ) (c : ℕ) (left : Bool) (r : Reached) →
     takes_any part ≡ false → IsLeft seen left → block_next mode part seen c ≡ Some r →
     may_begin_block mode part left ≡ true
-block_may Langid part seen c left r t l e = cc
-block_may Locale part seen c left r t l e =
-    let m = of_if _ _ r e in
-    let b = and_parts _ _ m.0 in
-    let a = and_parts _ _ b.0 in
-    by left l a.0 a.1 (not-true _ b.1)
-  where
-    by : (left : Bool) → IsLeft seen left → may_end part ≡ true → is_ascii_alphanumeric c ≡ true →
-        is_seen seen c ≡ false → may_begin_block Locale part left ≡ true
-    by true l end letter new = rw (end, t) refl
-    by false l end letter new = absurd (true≢false (sym (l refl c letter) ∙ new))
-block_may Data (Head stage) seen c left r t l e = refl
-block_may Data _ seen c left r t l e = cc
+block_may mode part seen c left r h k e = grind (arith, of_if, and_parts, not-true)
 
 -- ---- words
 
@@ -121,11 +79,7 @@ AreNone vs none = none ≡ false → vs ≢ []
 
 new_may : (mode : Mode) (vs : List Text) (v : Text) (none : Bool) → AreNone vs none →
     is_new mode vs v ≡ true → has_variant mode none ≡ true
-new_may Langid vs v none n e = refl
-new_may Locale vs v none n e = refl
-new_may Data vs v true n e = refl
-new_may Data [] v false n e = absurd (n refl refl)
-new_may Data (x ∷ vs) v false n e = absurd (true≢false (sym e))
+new_may mode vs v none h k = grind arith
 
 -- a word of an identifier: what it is, and that it fits
 pub data IsOneOf (mode : Mode) (vs : List Text) (stage : Stage) (p : Text) : Type 0 where
@@ -136,10 +90,7 @@ pub data IsOneOf (mode : Mode) (vs : List Text) (stage : Stage) (p : Text) : Typ
 module _ (mode : Mode) (vs : List Text) (p : Text) where
   variant_one : (stage : Stage) (x : Stage × List Text) → after_region_next mode vs p ≡ Some x →
       IsOneOf mode vs stage p
-  variant_one stage x e = by_test (is_word Variant p && is_new mode vs (lower p)) e
-      (λ b f. let h = and_parts _ _ b in
-      a_variant h.1 (rw (variant_no_script p h.0, variant_no_region p h.0) refl))
-      (λ b f. cc)
+  variant_one stage x e = grind (arith, a_variant, by_test, and_parts, variant_no_script, variant_no_region)
 
   region_one : (stage : Stage) (x : Stage × List Text) → stage ≢ Region →
       after_script_next mode vs p ≡ Some x → IsOneOf mode vs stage p
@@ -149,9 +100,7 @@ module _ (mode : Mode) (vs : List Text) (p : Text) where
 
   word_one : (stage : Stage) (x : Stage × List Text) → word_next mode stage vs p ≡ Some x →
       IsOneOf mode vs stage p
-  word_one Language x e =
-      by_test (is_word grammar.Script p) e (λ b f. a_script refl (rw b refl))
-      (λ b f. region_one Language x (λ g. cc) f)
+  word_one Language x e = grind (arith, a_script, by_test, region_one)
   word_one Script x e = region_one Script x (λ f. cc) e
   word_one Region x e = variant_one Region x e
 
@@ -160,19 +109,11 @@ MayWord mode of stage keyed none left p = may_come mode (of stage) keyed none le
 
 head_word : (mode : Mode) (vs : List Text) (stage : Stage) (p : Text) (keyed none left : Bool) →
     AreNone vs none → IsOneOf mode vs stage p → MayWord mode Head stage keyed none left p
-head_word mode vs stage p keyed none left n (a_script s k) = rw (k, s) refl
-head_word mode vs Language p keyed none left n (a_region s k) = rw k refl
-head_word mode vs Script p keyed none left n (a_region s k) = rw k refl
-head_word mode vs Region p keyed none left n (a_region s k) = absurd (s refl)
-head_word mode vs stage p keyed none left n (a_variant s k) = rw k (new_may mode vs (lower p) none n s)
+head_word mode vs stage p keyed none left h k = grind (arith, new_may)
 
 source_word : (mode : Mode) (vs : List Text) (stage : Stage) (p : Text) (keyed none left : Bool) →
     AreNone vs none → IsOneOf mode vs stage p → MayWord mode Source stage keyed none left p
-source_word mode vs stage p keyed none left n (a_script s k) = rw (k, s) refl
-source_word mode vs Language p keyed none left n (a_region s k) = rw k refl
-source_word mode vs Script p keyed none left n (a_region s k) = rw k refl
-source_word mode vs Region p keyed none left n (a_region s k) = absurd (s refl)
-source_word mode vs stage p keyed none left n (a_variant s k) = rw k (new_may mode vs (lower p) none n s)
+source_word mode vs stage p keyed none left h k = grind (arith, new_may)
 
 -- ---- pieces of blocks
 
@@ -181,10 +122,10 @@ unfolding is_word
 long_attribute p h e = grind (arith, nat_tests)
 
 no_unicode_key : (p : Text) → IsWord Attribute p → is_word UnicodeKey p ≡ false
-no_unicode_key p h = false_from_ne_true _ (λ e. long_attribute p h (length-unicode_key p e))
+no_unicode_key p h = grind (arith, false_from_ne_true, long_attribute, length-unicode_key)
 
 no_transform_key : (p : Text) → IsWord Attribute p → is_word TransformKey p ≡ false
-no_transform_key p h = false_from_ne_true _ (λ e. long_attribute p h (length-transform_key p e))
+no_transform_key p h = grind (arith, false_from_ne_true, long_attribute, length-transform_key)
 
 module _ (mode : Mode) (keyed none left : Bool) (w : Place) (p : Text) where
   abbrev May : Part → Type 0
@@ -192,47 +133,24 @@ module _ (mode : Mode) (keyed none left : Bool) (w : Place) (p : Text) where
 
   piece_may : (part q : Part) → IsReadAt part keyed w → begins_block part p ≡ false →
       piece_next part p ≡ Some q → May part
-  piece_may FieldKey q at b e =
-      let m = of_when _ FieldValue q e in rw (at.2, no_true _ b, no_transform_key p m.0, at.3) refl
-  piece_may FieldValue q at b e = elim (cases_Bool (is_word TransformKey p)) [
-    | inl k ↦ rw (at.2, no_true _ b, k) refl
-    | inr k ↦ rw (at.2, no_true _ b, k, at.3) refl
-  ]
-  piece_may Unicode q at b e = elim (cases_Bool (is_word UnicodeKey p))
-      [ inl k ↦ rw (at.0, no_true _ b, k) refl | inr k ↦ rw (at.0, no_true _ b, k) refl ]
-  piece_may Keyword q at b e = by keyed at
-    where
-      by : (keyed : Bool) → IsReadAt Keyword keyed w →
-          may_come mode Keyword keyed none left (kind_at w p) ≡ true
-      by true at = elim (cases_Bool (is_word UnicodeKey p))
-          [ inl k ↦ rw (at.1, no_true _ b, k) refl | inr k ↦ rw (at.1, no_true _ b, k, at.2) refl ]
-      by false at = elim (cases_Bool (is_word UnicodeKey p))
-          [ inl k ↦ rw (at.1, no_true _ b, k) refl | inr k ↦ rw (at.1, no_true _ b, k, at.2) refl ]
-  piece_may Other q at b e =
-      let n = other_apart at.0 at.3 in rw (at.2, n.2, no_true _ b, n.0, n.1) refl
-  piece_may OtherWord q at b e =
-      let n = other_apart at.0 at.3 in rw (at.2, n.2, no_true _ b, n.0, n.1) refl
-  piece_may Private q at b e = rw at.1 refl
-  piece_may PrivateWord q at b e = rw at.1 refl
-  piece_may Subdivision q at b e =
-      let m = of_when _ SubdivisionKey q e in rw (at.0, no_true _ b, sd_key p m.0) refl
-  piece_may SubdivisionKey q at b e =
-      by_test (is_word Attribute p) e (λ a f. rw (at.1, no_true _ b, no_unicode_key p a, at.2) refl)
-      (λ a f. cc)
-  piece_may SubdivisionValue q at b e =
-      let m = of_when _ SubdivisionValue q e in
-      rw (at.1, no_true _ b, no_unicode_key p (and_parts _ _ m.0).0, at.2) refl
-  piece_may _ q at b e = cc
+  piece_may part q h k e = grind (
+    arith,
+    of_when,
+    no_true,
+    no_transform_key,
+    cases_Bool,
+    other_apart,
+    sd_key,
+    by_test,
+    no_unicode_key,
+    and_parts,
+  )
 
   inside_may : (part : Part) (vs : List Text) (seen : List ℕ) (r : Reached) → IsReadAt part keyed w →
       AreNone vs none → begins_block part p ≡ false → inside_next mode part vs seen p ≡ Some r → May part
   inside_may Start vs seen r at n b e = rw at.0 refl
-  inside_may (Head stage) vs seen r at n b e =
-      let m = of_words Head (word_next mode stage vs p) seen r e in
-      rw (at.0, no_true _ b)
-      (head_word mode vs stage p keyed none left n (word_one mode vs p stage m.0 m.1))
-  inside_may Transform vs seen r at n b e = elim (cases_Bool (is_word TransformKey p))
-      [ inl k ↦ rw (at.0, no_true _ b, k) refl | inr k ↦ rw (at.0, no_true _ b, k) refl ]
+  inside_may (Head stage) vs seen r at n b e = grind (arith, of_words, no_true, head_word, word_one)
+  inside_may Transform vs seen r at n b e = grind (arith, cases_Bool, no_true)
   inside_may (Source stage) vs seen r at n b e = elim (cases_Bool (is_word TransformKey p)) [
     | inl k ↦ rw (at.2, no_true _ b, k) (field_may stage)
     | inr k ↦ let m = of_words Source (word_next mode stage vs p) seen r (rw k at e) in

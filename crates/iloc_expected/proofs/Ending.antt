@@ -1,23 +1,16 @@
 -- What was read once the last piece is read too.
-use Rattle.std.proofs.Common.{◌≡◌, ◌≢◌, ℕ, ◌+◌, Bool, not, is_some, true, false, true≢false, List, [], ◌∷◌}
-use Rattle.std.proofs.Common.{◌++◌, length, take, drop, map, Option, Some, None, refl, sym, ap, ◌∙◌, subst}
-use Rattle.std.proofs.Common.{append-nil, arith, inl, inr}
+use Rattle.std.proofs.Common.{◌≡◌, ◌≢◌, ℕ, ◌+◌, Bool, not, is_some, true, false, List, [], ◌∷◌}
+use Rattle.std.proofs.Common.{◌++◌, length, take, Option, Some, None, refl, sym, ap, ◌∙◌, subst}
+use Rattle.std.proofs.Common.{append-nil, arith}
 use Rattle.std.proofs.lemmas.Bool.{cases_Bool}
-use Rattle.iloc_spec_grammar.specs.Syntax.{Text, Variant, pieces, join, lower, is_word}
+use Rattle.iloc_spec_grammar.specs.Syntax.{Text, pieces, join, is_word}
 use Rattle.iloc_spec_grammar.proofs.PiecesLaws.{pieces-join, pieces_nonempty}
 use Rattle.iloc_pieces.specs.Cursor.{IsShortPiece, piece_left, pieces_left, bytes_left}
 use Rattle.iloc_pieces.specs.declared.place.Cursor.{Cursor}
 use Rattle.iloc_pieces.proofs.CursorLemmas.{last_piece, length_piece}
 use Rattle.iloc_normalize.specs.declared.Mode.{Mode}
 use Rattle.iloc_faults.specs.Next.{started, next, run}
-use Rattle.iloc_faults.specs.States.{
-  AreVariantsRead,
-  AreNew,
-  are_same,
-  first_variants,
-  variants_left,
-  reached,
-}
+use Rattle.iloc_faults.specs.States.{AreVariantsRead, first_variants, variants_left, reached}
 use Rattle.iloc_faults.specs.declared.state.Part.{Part}
 use Rattle.iloc_faults.specs.Places.{GoOn}
 use Rattle.iloc_faults.proofs.Going.{goes_no_longer}
@@ -33,9 +26,7 @@ use Rattle.iloc_expected.proofs.Walk.{piece_free, ran_one, reading_is, without_e
 pub again_bytes : (at again : Cursor) (slice all : Text) → IsShortPiece (piece_left at) →
     slice ≡ piece_left at → bytes_left again ≡ take (at.piece_length + 1) all →
     take (length slice + 1) all ≡ slice ++ 45 ∷ [] → bytes_left again ≡ piece_left at ++ 45 ∷ []
-again_bytes at again slice all short cut e f =
-    e ∙ ap (λ k. take (k + 1) all) (length_piece at short ∙ ap length (sym cut)) ∙ f
-    ∙ ap (λ q. q ++ 45 ∷ []) cut
+again_bytes at again slice all short cut e f = grind (arith, length_piece)
 
 module _ (at again : Cursor) (short : IsShortPiece (piece_left at)) (end : at.piece_length ≡ at.remaining)
     (bytes : bytes_left again ≡ piece_left at ++ 45 ∷ []) where
@@ -46,35 +37,18 @@ module _ (at again : Cursor) (short : IsShortPiece (piece_left at)) (end : at.pi
 
   same_variants : (p : Text) → first_variants (p ∷ []) ≡ first_variants (p ∷ [] ∷ [])
   unfolding is_word
-  same_variants p = elim (cases_Bool (is_word Variant p)) [ inl e ↦ rw e refl | inr e ↦ rw e refl ]
+  same_variants p = grind (arith, cases_Bool)
 
   variants_same : variants_left at ≡ variants_left again
-  variants_same = ap first_variants (last_piece at end short).one ∙ same_variants (piece_left at)
-      ∙ ap first_variants (sym two_left)
+  variants_same = grind (arith, last_piece, same_variants, two_left)
 
   are_read : (mode : Mode) (o : Option ℕ) (vs : List Text) → AreVariantsRead mode o at vs →
       AreVariantsRead mode o again vs
-  are_read mode None vs h = h
-  are_read mode (Some n) vs h = (
-    h.0,
-    λ other. subst (λ (ws : List Text). AreNew are_same vs (map lower ws) n) variants_same (h.1 other),
-  )
+  are_read mode o vs h = grind (arith, variants_same)
 
   pub read_again : {mode : Mode} {ps : List Text} {r : Reading} → IsReadUpTo mode ps at r →
       IsReadUpTo mode ps again r
-  read_again {mode = mode} {r = r} h = record {
-    variants = h.variants;
-    seen = h.seen;
-    free = h.free;
-    ran = h.ran;
-    read = record {
-      seen_are = h.read.seen_are;
-      variants_are = are_read mode r.state.variants h.variants h.read.variants_are;
-      early = h.read.early;
-    };
-    few = h.few;
-    place = h.place;
-  }
+  read_again h = grind (arith, are_read)
 
   module _ (mode : Mode) (ps : List Text) where
     pub none_again : IsStopped mode ps again → ¬ (GoOn mode (ps ++ (piece_left at ∷ [])))
@@ -118,13 +92,11 @@ module _ (at again : Cursor) (short : IsShortPiece (piece_left at)) (end : at.pi
 module _ (mode : Mode) (keyed : Bool) (part : Part) (vs : List Text) (seen : List ℕ) (at : Cursor) where
   pub piece_none : (o : Option Reading) (b : Bool) → is_some o ≡ not b → b ≡ true →
       IsPieceTaken mode keyed part vs seen at o → next mode (reached part vs seen) (piece_left at) ≡ None
-  piece_none None b e t h = h
-  piece_none (Some r) b e t h = absurd (true≢false (e ∙ ap not t))
+  piece_none o b h k e = grind arith
 
   pub piece_short : (o : Option Reading) (b : Bool) → is_some o ≡ not b → b ≡ false →
       IsPieceTaken mode keyed part vs seen at o → IsShortPiece (piece_left at)
-  piece_short None b e t h = absurd (true≢false (sym (e ∙ ap not t)))
-  piece_short (Some r) b e t h = h.0.3
+  piece_short o b h k e = grind arith
 
 -- ---- all pieces
 
@@ -133,12 +105,7 @@ module _ (mode : Mode) (t : Text) (from last : Cursor) (r : Reading) (all : piec
   -- the last piece is empty
   pub empty_is : last.remaining ≡ 0 → IsReading mode (without_empty (pieces t)) r
   unfolding pieces
-  empty_is e =
-      let none : bytes_left last ≡ [] = ap (λ n. take n (drop last.at last.window.now)) e in
-      let one : pieces_left last ≡ [] ∷ [] = ap pieces none in
-      let cut : pieces t ≡ h.done ++ ([] ∷ []) = sym all ∙ h.cut ∙ ap (λ qs. h.done ++ qs) one in
-      subst (λ (qs : List Text). IsReading mode qs r) (sym (ap without_empty cut ∙ without_end h.done))
-      (reading_is h.up_to)
+  empty_is e = grind (arith, without_end, reading_is)
 
   some_last : last.piece_length ≡ last.remaining → last.remaining ≢ 0 → piece_left last ≢ []
   some_last n m e =
@@ -158,8 +125,4 @@ module _ (mode : Mode) (t : Text) (from last : Cursor) (r : Reading) (all : piec
   pub all_is : last.piece_length ≡ last.remaining → last.remaining ≢ 0 → IsShortPiece (piece_left last)
       → (o : Option Reading) →
       AreRead mode (h.done ++ (piece_left last ∷ [])) o → AreRead mode (without_empty (pieces t)) o
-  all_is n m short o =
-      let one = (last_piece last n short).one in
-      subst (λ (qs : List Text). AreRead mode qs o)
-      (sym (ap without_empty (sym all ∙ h.cut ∙ ap (λ qs. h.done ++ qs) one)
-      ∙ with_piece h.done (piece_left last) [] (some_last n m)))
+  all_is n m short o = grind (arith, last_piece, with_piece, some_last)

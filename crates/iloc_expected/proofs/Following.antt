@@ -1,27 +1,12 @@
 -- What comes next is of a kind that may come, and the part is that of its place.
-use Rattle.std.proofs.Common.{◌≡◌, ℕ, Bool, true, false, not, ◌&&◌, ◌||◌, ◌==◌, List, [], ◌∷◌, ◌++◌}
+use Rattle.std.proofs.Common.{◌≡◌, ℕ, Bool, true, false, ◌&&◌, ◌||◌, ◌==◌, List, [], ◌∷◌, ◌++◌}
 use Rattle.std.proofs.Common.{slice_index, Option, Some, None, option_map, codes, if◌then◌else◌, refl, sym}
-use Rattle.std.proofs.Common.{ap, ◌∙◌, subst, true≢false, inl, inr, arith}
-use Rattle.std.proofs.lemmas.Bool.Decides.{nat_tests}
+use Rattle.std.proofs.Common.{◌∙◌, subst, true≢false, inl, inr, arith}
 use Rattle.std.specs.List.{list_any}
 use Rattle.std.specs.Char.{is_ascii_alphanumeric, to_ascii_lowercase}
 use Rattle.std.proofs.lemmas.Bool.{cases_Bool, and_parts, or_parts, not-true, or_left, or_right, eqb-true}
-use Rattle.iloc_spec_grammar.specs.Syntax.{
-  Text,
-  code_t,
-  code_u,
-  code_x,
-  is_word,
-  is_one_byte,
-  is_other_singleton,
-  lower,
-  is_same,
-  is_true,
-  UnicodeKey,
-  TransformKey,
-  Attribute,
-  Subtag,
-}
+use Rattle.iloc_spec_grammar.specs.Syntax.{Text, code_t, code_u, code_x, is_word, is_one_byte}
+use Rattle.iloc_spec_grammar.specs.Syntax.{is_other_singleton, lower, is_same, UnicodeKey, TransformKey}
 use Rattle.iloc_spec_grammar.proofs.MapLaws.{same_is}
 use Rattle.iloc_spec_grammar.proofs.Singletons.{IsKind, of_u, of_t, of_x, another, kind_of, lower_letter}
 use Rattle.iloc_normalize.specs.declared.Mode.{Mode}
@@ -45,20 +30,8 @@ use Rattle.iloc_faults.specs.declared.state.Part.TheVariants.{
   SubdivisionValue,
 }
 use Rattle.iloc_faults.specs.declared.state.Stage.{Stage}
-use Rattle.iloc_faults.specs.declared.state.Stage.TheVariants.{Language}
-use Rattle.iloc_faults.specs.Next.{
-  Reached,
-  plain,
-  when,
-  takes_any,
-  part_of,
-  begins_block,
-  block_next,
-  inside_next,
-  piece_next,
-  word_next,
-  next,
-}
+use Rattle.iloc_faults.specs.Next.{Reached, plain, when, takes_any, part_of, begins_block, block_next}
+use Rattle.iloc_faults.specs.Next.{inside_next, piece_next, next}
 use Rattle.iloc_faults.specs.States.{reached}
 use Rattle.iloc_expected.specs.Kinds.{Place, InExtension, InIdentifier}
 use Rattle.iloc_expected.specs.Readings.{IsReadAt, keyed_after}
@@ -72,9 +45,7 @@ of_when false q r e = cc
 
 pub of_plain : (o : Option Part) (seen : List ℕ) (r : Reached) → option_map (plain seen) o ≡ Some r →
     o ≡ Some r.part
-of_plain None seen r e = cc
-of_plain (Some q) seen r e =
-    let same : plain seen q ≡ r = cc in ap (λ (x : Reached). Some x.part) same
+of_plain o seen r h = grind arith
 
 abbrev Words : Type 0
 Words = Stage × List Text
@@ -82,9 +53,7 @@ Words = Stage × List Text
 pub of_words : (of : Stage → Part) (o : Option Words) (seen : List ℕ) (r : Reached) →
     option_map (λ (w : Words). reached (of w.0) w.1 seen) o ≡ Some r →
     (w : Words) × (o ≡ Some w) × (r.part ≡ of w.0)
-of_words of None seen r e = cc
-of_words of (Some w) seen r e =
-    let same : reached (of w.0) w.1 seen ≡ r = cc in (w, refl, ap (λ (x : Reached). x.part) (sym same))
+of_words of o seen r h = grind arith
 
 -- ---- a block begins
 
@@ -94,12 +63,7 @@ Begins w p = place_more w p ≡ InExtension (to_ascii_lowercase (slice_index p 0
 
 pub other_apart : (c : ℕ) → is_other_singleton c ≡ true →
     ((c == code_t) ≡ false) × ((c == code_u) ≡ false) × ((c == code_x) ≡ false)
-other_apart c h =
-    let n = or_parts ((c == code_t) || (c == code_u)) (c == code_x)
-    (not-true _
-    (and_parts (is_ascii_alphanumeric c) (not (c == code_t || c == code_u || c == code_x)) h).1) in
-    let m = or_parts (c == code_t) (c == code_u) n.0 in
-    (m.0, m.1, n.1)
+other_apart c h = grind (arith, or_parts, not-true, and_parts)
 
 -- a place where a piece of one byte is a singleton
 pub data IsOutside (w : Place) : Type 0 where
@@ -125,19 +89,12 @@ outside SubdivisionKey keyed w at t = in_block code_u at.0 at.1 refl
 outside SubdivisionValue keyed w at t = in_block code_u at.0 at.1 refl
 
 begins : {w : Place} → IsOutside w → (p : Text) → is_one_byte p ≡ true → Begins w p
-begins (in_head e) p one = rw (e, one) refl
-begins (in_block c qs e x) p one = rw (e, x, one) refl
+begins h p k = grind arith
 
 -- the part of a singleton in lower case
 begun : (c : ℕ) → is_ascii_alphanumeric c ≡ true → (keyed : Bool) (p : Text) →
     IsReadAt (part_of c) (keyed_after keyed (part_of c) p) (InExtension c [])
-begun c a keyed p = by (kind_of c a)
-  where
-    by : IsKind c → IsReadAt (part_of c) (keyed_after keyed (part_of c) p) (InExtension c [])
-    by (of_u e) = rw e (refl, refl)
-    by (of_t e) = rw e (refl, refl)
-    by (of_x e) = rw e ([], refl, refl)
-    by (another h) = let n = other_apart c h in rw (n.0, n.1, n.2) (c, [], refl, h, refl)
+begun c a keyed p = grind (arith, kind_of, IsKind, of_u, of_t, of_x, another, other_apart)
 
 pub of_if : (b : Bool) (x r : Reached) → (if b then Some x else None) ≡ Some r → (b ≡ true) × (x ≡ r)
 of_if true x r e = (refl, cc)
@@ -154,12 +111,7 @@ block_made Locale part seen c keyed p r e =
     subst (λ (x : Reached).
     IsReadAt x.part (keyed_after keyed x.part p) (InExtension (to_ascii_lowercase c) []))
     m.1 (begun (to_ascii_lowercase c) (lower_letter c a) keyed p)
-block_made Data (Head stage) seen c keyed p r e =
-    let m = of_if _ _ r e in
-    let u = eqb-true (to_ascii_lowercase c) code_u m.0 in
-    subst (λ (x : Reached).
-    IsReadAt x.part (keyed_after keyed x.part p) (InExtension (to_ascii_lowercase c) []))
-    m.1 (ap (λ d. InExtension d []) u, refl)
+block_made Data (Head stage) seen c keyed p r e = grind (arith, of_if, eqb-true)
 block_made Data _ seen c keyed p r e = cc
 
 -- ---- a piece goes on with its block
@@ -173,10 +125,7 @@ sd_by : (p : Text) → lower p ≡ codes "sd" → is_word UnicodeKey p ≡ true
 unfolding lower is_word
 sd_by [] e = cc
 sd_by (a ∷ []) e = cc
-sd_by (a ∷ b ∷ []) e =
-    let f : to_ascii_lowercase a ≡ 115 = cc in
-    let g : to_ascii_lowercase b ≡ 100 = cc in
-    grind (arith, nat_tests)
+sd_by (a ∷ b ∷ []) e = grind arith
 sd_by (a ∷ b ∷ c ∷ p) e = cc
 
 pub sd_key : (p : Text) → is_same (lower p) (codes "sd") ≡ true → is_word UnicodeKey p ≡ true
@@ -197,7 +146,7 @@ more_false f qs p e g = any_more f qs p ∙ rw (e, g) refl
 
 last_true : (f : Text → Bool) (qs : List Text) (p : Text) → f p ≡ true →
     list_any f (qs ++ (p ∷ [])) ≡ true
-last_true f qs p e = any_more f qs p ∙ or_right (list_any f qs) (f p) e
+last_true f qs p e = grind (arith, any_more, or_right)
 
 -- by what a test chose
 pub by_test : {X P : Type 0} {x y z : X} (b : Bool) → (if b then x else y) ≡ z → (b ≡ true → x ≡ z → P) →
@@ -228,12 +177,7 @@ module _ (keyed : Bool) (w : Place) (p : Text) where
 
   other_on : IsReadAt Other keyed w → is_one_byte p ≡ false → (b : Bool) →
       Made (if b then OtherWord else Other)
-  other_on at one b =
-      let more = inside_more at.0 at.1 w p at.2 (other_apart at.0 at.3).2 one in
-      elim b as (λ b. Made (if b then OtherWord else Other)) [
-        | true ↦ (at.0, at.1 ++ (p ∷ []), more, at.3, refl)
-        | false ↦ (at.0, at.1 ++ (p ∷ []), more, at.3, refl)
-      ]
+  other_on at one b = grind (arith, inside_more, other_apart)
 
   private_on : IsReadAt PrivateWord keyed w → Made PrivateWord
   private_on at = (at.0 ++ (p ∷ []), rw at.1 refl, refl)
@@ -248,63 +192,33 @@ module _ (keyed : Bool) (w : Place) (p : Text) where
 
   -- the first piece after `u` is keyed if it is a key
   first_keyed : keyed ≡ false → list_any (is_word UnicodeKey) (p ∷ []) ≡ (keyed || is_word UnicodeKey p)
-  first_keyed e = rw e (elim (cases_Bool (is_word UnicodeKey p)) [ inl k ↦ rw k refl | inr k ↦ rw k refl ])
+  first_keyed e = grind (arith, cases_Bool)
 
   piece_made : (part q : Part) → IsReadAt part keyed w → begins_block part p ≡ false →
       piece_next part p ≡ Some q → Made q
-  piece_made FieldKey q at b e = made_when _ FieldValue e (field_on at (no_true _ b))
-  piece_made FieldValue q at b e =
-      let on = field_on at (no_true _ b) in
-      by_test (is_word TransformKey p) e (λ k f. is_made f on) (λ k f. made_when _ FieldValue f on)
-  piece_made Unicode q at b e =
-      made_when _ Keyword e (p ∷ [], inside_more code_u [] w p at.0 refl (no_true _ b), first_keyed at.1)
-  piece_made Keyword q at b e = made_when _ Keyword e (
-    at.0 ++ (p ∷ []),
-    inside_more code_u at.0 w p at.1 refl (no_true _ b),
-    any_more (is_word UnicodeKey) at.0 p ∙ ap (λ k. k || is_word UnicodeKey p) at.2,
-  )
-  piece_made Other q at b e = made_when _ (if is_word Subtag p then OtherWord else Other) e
-      (other_on at (no_true _ b) (is_word Subtag p))
-  piece_made OtherWord q at b e = made_when _ OtherWord e (other_on at (no_true _ b) true)
-  piece_made Private q at b e = made_when _ PrivateWord e (private_on at)
-  piece_made PrivateWord q at b e = made_when _ PrivateWord e (private_on at)
-  piece_made Subdivision q at b e = made_when _ SubdivisionKey e (
-    p ∷ [],
-    inside_more code_u [] w p at.0 refl (no_true _ b),
-    or_left (is_word UnicodeKey p) false (sd_key p (of_when _ SubdivisionKey q e).0),
-    refl,
-  )
-  piece_made SubdivisionKey q at b e =
-      let on = subdivision_on at (no_true _ b) in
-      by_test (is_word Attribute p) e
-      (λ a f. by_test (is_true (lower p)) f (λ t g. is_made g on) (λ t g. made_when _ SubdivisionValue g on))
-      (λ a f. cc)
-  piece_made SubdivisionValue q at b e = made_when _ SubdivisionValue e (subdivision_on at (no_true _ b))
+  piece_made FieldKey q at b e = grind (arith, made_when, field_on, no_true)
+  piece_made FieldValue q at b e = grind (arith, field_on, no_true, by_test, is_made, made_when)
+  piece_made Unicode q at b e = grind (arith, made_when, inside_more, no_true, first_keyed)
+  piece_made Keyword q at b e = grind (arith, made_when, inside_more, no_true, any_more)
+  piece_made Other q at b e = grind (arith, made_when, other_on, no_true)
+  piece_made OtherWord q at b e = grind (arith, made_when, other_on, no_true)
+  piece_made Private q at b e = grind (arith, made_when, private_on)
+  piece_made PrivateWord q at b e = grind (arith, made_when, private_on)
+  piece_made Subdivision q at b e = grind (arith, made_when, inside_more, no_true, or_left, sd_key, of_when)
+  piece_made SubdivisionKey q at b e = grind (arith, subdivision_on, no_true, by_test, is_made, made_when)
+  piece_made SubdivisionValue q at b e = grind (arith, made_when, subdivision_on, no_true)
   piece_made _ q at b e = cc
 
   -- the part of a piece that begins no block
   inside_made : (mode : Mode) (part : Part) (vs : List Text) (seen : List ℕ) (r : Reached) →
       IsReadAt part keyed w → begins_block part p ≡ false → inside_next mode part vs seen p ≡ Some r →
       Made r.part
-  inside_made mode Start vs seen r at b e =
-      made_when _ (Head Language) (of_plain _ seen r e) (rw at.0 refl, refl)
-  inside_made mode (Head stage) vs seen r at b e =
-      let m = of_words Head (word_next mode stage vs p) seen r e in
-      let one = no_true _ b in
-      subst Made (sym m.2) (rw (at.0, one) refl, refl)
+  inside_made mode Start vs seen r at b e = grind (arith, made_when, of_plain)
+  inside_made mode (Head stage) vs seen r at b e = grind (arith, of_words, no_true)
   inside_made mode Transform vs seen r at b e =
-      let more = inside_more code_t [] w p at.0 refl (no_true _ b) in
-      by_test (is_word TransformKey p) e
-      (λ k f. is_made (of_plain (Some FieldKey) seen r f)
-      (p, [], more, or_left (is_word TransformKey p) false k, refl))
-      (λ k f. made_when _ (Source Language) (of_plain _ seen r f) (p, [], more, rw k refl, refl))
+      grind (arith, inside_more, no_true, by_test, is_made, of_plain, or_left, made_when)
   inside_made mode (Source stage) vs seen r at b e =
-      let more = inside_more code_t (at.0 ∷ at.1) w p at.2 refl (no_true _ b) in
-      by_test (is_word TransformKey p) e
-      (λ k f. is_made (of_plain (Some FieldKey) seen r f)
-      (at.0, at.1 ++ (p ∷ []), more, last_true (is_word TransformKey) (at.0 ∷ at.1) p k, refl))
-      (λ k f. subst Made (sym (of_words Source (word_next mode stage vs p) seen r f).2)
-      (at.0, at.1 ++ (p ∷ []), more, more_false (is_word TransformKey) (at.0 ∷ at.1) p at.3 k, refl))
+      grind (arith, inside_more, no_true, by_test, is_made, of_plain, last_true, of_words, more_false)
   inside_made mode part vs seen r at b e = piece_made part r.part at b (of_plain _ seen r e)
 
   -- a piece more is read at its place

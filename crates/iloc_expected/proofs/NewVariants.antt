@@ -25,11 +25,7 @@ pub record IsLetter (c : ℕ) : Type 0 where
   pub no_hyphen : (c == 45) ≡ false
 
 letter_is : (k : ℕ) → k < 32 → IsLetter (letter k)
-letter_is k h = record {
-  letter = grind (arith, nat_tests);
-  low = grind (arith, nat_tests);
-  no_hyphen = grind (arith, nat_tests);
-}
+letter_is k h = grind arith
 
 -- ---- texts that begin with a byte, and others
 
@@ -48,8 +44,7 @@ others c ((d ∷ t) ∷ ts) = if d == c then others c ts else (d ∷ t) ∷ othe
 fewer : (c : ℕ) (ts : List Text) → length (tails c ts) + length (others c ts) ≤ length ts
 fewer c [] = omega arith
 fewer c ([] ∷ ts) = let h = fewer c ts in omega arith
-fewer c ((d ∷ t) ∷ ts) = let h = fewer c ts in elim (cases_Bool (d == c))
-    [ inl e ↦ rw e (omega arith) | inr e ↦ rw e (omega arith) ]
+fewer c ((d ∷ t) ∷ ts) = grind (arith, cases_Bool, fewer c ts)
 
 abbrev IsNone : Text → List Text → Type 0
 IsNone w ts = AllByRecursion (λ t. t ≢ w) ts
@@ -121,7 +116,7 @@ power (suc n) = 32 * power n
 
 new_word : (n : ℕ) → HasNew n (power n)
 unfolding power
-new_word zero [] h = ([], record { long = refl; letters = tt; none = tt })
+new_word zero [] h = grind arith
 new_word zero (t ∷ ts) h = absurd (omega arith)
 new_word (suc n) ts h =
     let w = pick n (power n) 32 (new_word n) ts h in (

@@ -1,6 +1,6 @@
 -- Where the piece after one more stands.
-use Rattle.std.proofs.Common.{◌≡◌, Bool, false, ◌==◌, ◌||◌, List, [], ◌∷◌, ◌++◌, length, slice_index}
-use Rattle.std.proofs.Common.{Option, Some, None, if◌then◌else◌, refl, sym, ap, ◌∙◌, append-nil, inl, inr}
+use Rattle.std.proofs.Common.{◌≡◌, Bool, ◌==◌, ◌||◌, List, [], ◌∷◌, ◌++◌, length, slice_index, Option, Some}
+use Rattle.std.proofs.Common.{None, if◌then◌else◌, refl, sym, ap, ◌∙◌, append-nil, inl, inr, arith}
 use Rattle.std.specs.List.{list_any}
 use Rattle.std.specs.Char.{to_ascii_lowercase}
 use Rattle.std.proofs.lemmas.Bool.{cases_Bool}
@@ -45,8 +45,7 @@ none_front ((c ∷ []) ∷ ps) qs h = elim (cases_Bool (to_ascii_lowercase c == 
   | inr e ↦ let k = rw e at h in let s = some_last (c, front ps) (blocks ps) in
       let n : Some s.0 ≡ None = sym s.1 ∙ k in cc
 ]
-none_front ((c ∷ d ∷ p) ∷ ps) qs h =
-    rw (two_more (length p)) (ap (λ l. (c ∷ d ∷ p) ∷ l) (none_front ps qs h))
+none_front ((c ∷ d ∷ p) ∷ ps) qs h = grind (arith, two_more, none_front ps qs h)
 
 whole : (ps : List Text) → last_block (blocks ps) ≡ None → front ps ≡ ps
 whole ps h = ap front (sym (append-nil ps)) ∙ none_front ps [] h ∙ append-nil ps
@@ -54,30 +53,11 @@ whole ps h = ap front (sym (append-nil ps)) ∙ none_front ps [] h ∙ append-ni
 last_more : (ps : List Text) (p : Text) →
     last_block (blocks (ps ++ (p ∷ []))) ≡ block_more (last_block (blocks ps)) p
 last_more [] [] = refl
-last_more [] (c ∷ []) = elim (cases_Bool (to_ascii_lowercase c == code_x))
-    [ inl e ↦ rw e refl | inr e ↦ rw e refl ]
+last_more [] (c ∷ []) = grind (arith, cases_Bool)
 last_more [] (c ∷ d ∷ p) = rw (two_more (length p)) refl
 last_more ([] ∷ ps) p = last_more ps p
 last_more ((c ∷ d ∷ q) ∷ ps) p = last_more ps p
-last_more ((c ∷ []) ∷ ps) p = elim (cases_Bool (to_ascii_lowercase c == code_x)) [
-  | inl e ↦ rw (e, e) refl
-  | inr e ↦ rw e (last_cons (c, front (ps ++ (p ∷ []))) (blocks (ps ++ (p ∷ [])))
-      ∙ ap (λ o. or_else o (c, front (ps ++ (p ∷ [])))) (last_more ps p)
-      ∙ by (last_block (blocks ps)) refl e
-      ∙ ap (λ o. block_more o p) (sym (last_cons (c, front ps) (blocks ps))))
-]
-  where
-    by : (o : Option Block) → last_block (blocks ps) ≡ o → (to_ascii_lowercase c == code_x) ≡ false →
-        or_else (block_more o p) (c, front (ps ++ (p ∷ []))) ≡ block_more (or_else o (c, front ps)) p
-    by (Some (d, qs)) h e = elim (cases_Bool (to_ascii_lowercase d == code_x)) [
-      | inl f ↦ rw f refl
-      | inr f ↦ elim (cases_Bool (is_one_byte p)) [ inl g ↦ rw (f, g) refl | inr g ↦ rw (f, g) refl ]
-    ]
-    by None h e = elim (cases_Bool (is_one_byte p)) [
-      | inl g ↦ rw (e, g) refl
-      | inr g ↦ rw (e, g) (ap (λ l. Some (c, l)) (none_front ps (p ∷ []) h ∙ rw g refl
-          ∙ ap (λ l. l ++ (p ∷ [])) (sym (whole ps h))))
-    ]
+last_more ((c ∷ []) ∷ ps) p = grind (arith, cases_Bool, last_cons, none_front, whole, last_more ps p)
 
 -- ---- the place
 
@@ -91,19 +71,14 @@ place_more (InExtension c qs) p = if c == code_x then InExtension c (qs ++ (p �
     InExtension c (qs ++ (p ∷ []))
 
 place_in_more : (o : Option Block) (p : Text) → place_in (block_more o p) ≡ place_more (place_in o) p
-place_in_more None p = elim (cases_Bool (is_one_byte p)) [ inl e ↦ rw e refl | inr e ↦ rw e refl ]
-place_in_more (Some (c, qs)) p = elim (cases_Bool (to_ascii_lowercase c == code_x)) [
-  | inl e ↦ rw e refl
-  | inr e ↦ elim (cases_Bool (is_one_byte p)) [ inl f ↦ rw (e, f) refl | inr f ↦ rw (e, f) refl ]
-]
+place_in_more o p = grind (arith, cases_Bool)
 
 pub place_of_more : (ps : List Text) (p : Text) → place_after (ps ++ (p ∷ [])) ≡ place_more (place_after ps) p
-place_of_more [] p = refl
-place_of_more (q ∷ ps) p = ap place_in (last_more ps p) ∙ place_in_more (last_block (blocks ps)) p
+place_of_more ps p = grind (arith, last_more, place_in_more)
 
 -- ---- whether one of the pieces passes
 
 pub any_more : (f : Text → Bool) (qs : List Text) (p : Text) →
     list_any f (qs ++ (p ∷ [])) ≡ (list_any f qs || f p)
-any_more f [] p = elim (cases_Bool (f p)) [ inl e ↦ rw e refl | inr e ↦ rw e refl ]
-any_more f (q ∷ qs) p = elim (cases_Bool (f q)) [ inl e ↦ rw e refl | inr e ↦ rw e (any_more f qs p) ]
+any_more f [] p = grind (arith, cases_Bool)
+any_more f (q ∷ qs) p = grind (arith, cases_Bool, any_more f qs p)

@@ -1,6 +1,6 @@
 -- Each kind that may come has a piece that comes next.
 use Rattle.std.proofs.Common.{◌≡◌, ℕ, Bool, true, false, not, ◌&&◌, List, [], ◌∷◌, Option, Some, None}
-use Rattle.std.proofs.Common.{is_some, option_map, codes, refl, sym, ◌∙◌, true≢false, arith}
+use Rattle.std.proofs.Common.{is_some, option_map, codes, refl, sym, true≢false, arith}
 use Rattle.std.specs.Char.{is_ascii_alphanumeric}
 use Rattle.std.proofs.lemmas.Bool.{and_parts, not-true, false_from_ne_true}
 use Rattle.std.proofs.lemmas.Bool.Decides.{nat_tests}
@@ -50,7 +50,8 @@ use Rattle.iloc_faults.specs.States.{reached}
 use Rattle.iloc_expected.specs.declared.kinds.PieceKind.{PieceKind}
 use Rattle.iloc_expected.specs.declared.kinds.PieceKind.TheVariants as kinds
 use Rattle.iloc_expected.specs.Kinds.{Place, kind_at, has}
-use Rattle.iloc_expected.specs.Readings.{IsReadAt, has_variant, may_have_variant, may_begin_block, piece_bits}
+use Rattle.iloc_expected.specs.Readings.{IsReadAt, has_variant, may_have_variant, may_begin_block}
+use Rattle.iloc_expected.specs.Readings.{piece_bits}
 use Rattle.iloc_expected.proofs.Following.{other_apart, in_head, outside}
 use Rattle.iloc_expected.proofs.Coming.{singleton_is}
 use Rattle.iloc_expected.proofs.NewVariants.{IsNewVariant}
@@ -68,7 +69,7 @@ sample : {mode : Mode} {part : Part} {vs : List Text} {seen : List ℕ} {w : Pla
     (p : Text) →
     IsHyphenFree p → is_some (next mode (reached part vs seen) p) ≡ true → kind_at w p ≡ kind →
     HasPiece mode part vs seen w kind
-sample p f c k = record { piece = p; free = f; comes = c; is_kind = k }
+sample p f c k = grind arith
 
 -- ---- pieces of the other kinds
 
@@ -120,7 +121,7 @@ plain_piece mode SubdivisionKey vs seen keyed w kinds.Value at h =
     sample (codes "abc") refl refl (rw (at.1, at.2) refl)
 plain_piece mode SubdivisionValue vs seen keyed w kinds.Value at h =
     sample (codes "true") refl refl (rw (at.1, at.2) refl)
-plain_piece mode (Head Region) vs seen keyed w kind at h = absurd (true≢false (sym h ∙ none_has kind))
+plain_piece mode (Head Region) vs seen keyed w kind at h = grind (arith, none_has)
 plain_piece mode _ vs seen keyed w kind at h = absurd (true≢false (sym h))
 
 -- ---- variants
@@ -131,9 +132,7 @@ AreSome vs none = none ≡ true → vs ≡ []
 
 new_is : (mode : Mode) (vs : List Text) (v : Text) (none : Bool) → AreSome vs none → IsNewVariant vs v →
     has_variant mode none ≡ true → is_new mode vs (lower v) ≡ true
-new_is Langid vs v none s n h = let e = n.low in let f = n.none in rw (e, f) refl
-new_is Locale vs v none s n h = let e = n.low in let f = n.none in rw (e, f) refl
-new_is Data vs v none s n h = let e = s h in rw e refl
+new_is mode vs v none h k e = grind arith
 
 module _ (mode : Mode) (vs : List Text) (seen : List ℕ) (keyed none : Bool) (w : Place) (v : Text)
     (some : AreSome vs none) (new : IsNewVariant vs v) (may : has_variant mode none ≡ true) where
@@ -141,7 +140,7 @@ module _ (mode : Mode) (vs : List Text) (seen : List ℕ) (keyed none : Bool) (w
   one = rw new.long refl
 
   no_key : is_word TransformKey v ≡ false
-  no_key = false_from_ne_true _ (λ e. let k = length-transform_key v e in let l = new.long in omega arith)
+  no_key = grind (arith, false_from_ne_true, length-transform_key)
 
   no_script : is_word grammar.Script v ≡ false
   no_script = variant_no_script v new.word
@@ -150,11 +149,7 @@ module _ (mode : Mode) (vs : List Text) (seen : List ℕ) (keyed none : Bool) (w
   no_region = variant_no_region v new.word
 
   pub word_comes : (stage : Stage) → is_some (word_next mode stage vs v) ≡ true
-  word_comes Language =
-      let f = new_is mode vs v none some new may in let x = new.word in rw (no_script, no_region, x, f) refl
-  word_comes Script =
-      let f = new_is mode vs v none some new may in let x = new.word in rw (no_region, x, f) refl
-  word_comes Region = let f = new_is mode vs v none some new may in let x = new.word in rw (x, f) refl
+  word_comes stage = grind (arith, new_is, no_script, no_region)
 
   some_map : {X Y : Type 0} (f : X → Y) (o : Option X) → is_some o ≡ true → is_some (option_map f o) ≡ true
   some_map f None e = e
@@ -162,21 +157,11 @@ module _ (mode : Mode) (vs : List Text) (seen : List ℕ) (keyed none : Bool) (w
 
   pub head_variant : (stage : Stage) → IsReadAt (Head stage) keyed w →
       HasPiece mode (Head stage) vs seen w kinds.Variant
-  head_variant stage at = record {
-    piece = v;
-    free = new.free;
-    comes = rw one (some_map _ (word_next mode stage vs v) (word_comes stage));
-    is_kind = rw (at.0, one, no_script, no_region) refl;
-  }
+  head_variant stage at = grind (arith, one, some_map, word_comes, no_script, no_region)
 
   pub source_variant : (stage : Stage) → IsReadAt (Source stage) keyed w →
       HasPiece mode (Source stage) vs seen w kinds.Variant
-  source_variant stage at = record {
-    piece = v;
-    free = new.free;
-    comes = rw (one, no_key) (some_map _ (word_next mode stage vs v) (word_comes stage));
-    is_kind = rw (at.2, one, no_key, at.3, no_script, no_region) refl;
-  }
+  source_variant stage at = grind (arith, one, no_key, some_map, word_comes, no_script, no_region)
 
 pub variant_piece : (mode : Mode) (part : Part) (vs : List Text) (seen : List ℕ) (keyed none : Bool)
     (w : Place) (v : Text) → IsReadAt part keyed w → AreSome vs none → IsNewVariant vs v →

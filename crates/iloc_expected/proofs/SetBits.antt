@@ -1,6 +1,6 @@
 -- The bits of a set of kinds, and the kinds in it from a number on.
-use Rattle.std.proofs.Common.{◌≡◌, inl, inr, ℕ, ◌+◌, ◌*◌, ◌%◌, ◌<◌, ◌^◌, Bool, true, false, ◌&&◌, ◌||◌, ◌==◌}
-use Rattle.std.proofs.Common.{◌∷◌, drop, filter, refl, sym, ap, ap₂, ◌∙◌, subst, arith, ◌++◌}
+use Rattle.std.proofs.Common.{◌≡◌, ℕ, ◌+◌, ◌*◌, ◌%◌, ◌<◌, ◌^◌, Bool, true, false, ◌&&◌, ◌||◌}
+use Rattle.std.proofs.Common.{◌==◌, ◌∷◌, drop, refl, arith, ◌++◌}
 use Rattle.std.specs.Int.{bit_at}
 use lib.Bits.{bit_or}
 use Rattle.std.proofs.lemmas.Bool.{cases_eq, eq-eqb, ne_eqb}
@@ -9,34 +9,14 @@ use Rattle.iloc_expected.specs.declared.kinds.Expected.{Expected}
 use Rattle.iloc_expected.specs.declared.kinds.PieceKind.{PieceKind}
 use Rattle.iloc_expected.specs.declared.kinds.PieceKind.TheVariants as kinds
 use Rattle.iloc_expected.specs.Kinds.{has, kind_bit}
-use Rattle.iloc_expected.specs.Words.{
-  piece_kinds,
-  named_from,
-  before_next,
-  after_first,
-  kind_words,
-  words_of,
-  words_of_kinds,
-}
+use Rattle.iloc_expected.specs.Words.{piece_kinds, named_from, before_next, after_first, kind_words}
+use Rattle.iloc_expected.specs.Words.{words_of}
 use Rattle.iloc_spec_grammar.specs.Syntax.{Text}
 
 -- with the bit of n it is set too
 pub with_bit : (bits n m : ℕ) →
     (bit_at (bit_or bits (2 ^ n)) m == 1) ≡ (((n == m) && true) || (bit_at bits m == 1))
-with_bit bits n m = elim (cases_eq n m) [
-  | inl e ↦
-      let one : bit_at (2 ^ n) m ≡ 1 = ap (bit_at (2 ^ n)) (sym e) ∙ bit_at-pow_same n in
-      let both = bit_at_or bits (2 ^ n) m in
-      let small : bit_at bits m < 2 = omega arith in
-      let set : bit_at (bit_or bits (2 ^ n)) m ≡ 1 = omega (arith, one, both, small) in
-      let left = eq-eqb _ 1 set in
-      let same = eq-eqb n m e in rw (left, same) refl
-  | inr d ↦
-      let zero : bit_at (2 ^ n) m ≡ 0 = bit_at-pow_other n m (λ e. d (sym e)) in
-      let both = bit_at_or bits (2 ^ n) m in
-      let kept : bit_at (bit_or bits (2 ^ n)) m ≡ bit_at bits m = omega (arith, zero, both) in
-      let apart = ne_eqb n m d in rw (kept, apart) refl
-]
+with_bit bits n m = grind (arith, cases_eq, bit_at-pow_same, bit_at_or, eq-eqb, bit_at-pow_other, ne_eqb)
 
 -- the bit of a kind fits
 fits : (k : PieceKind) → 1 * 2 ^ kind_bit k % 65536 ≡ 2 ^ kind_bit k
@@ -46,11 +26,7 @@ fits _ = refl
 pub with_kind : (bits : ℕ) (k other : PieceKind) (n : ℕ) (holds : Bool) → n ≡ kind_bit k → holds ≡ true →
     has (record { bits = bit_or bits (1 * 2 ^ n % 65536) }) other
     ≡ (((kind_bit k == kind_bit other) && holds) || has (record { bits = bits }) other)
-with_kind bits k other n holds e h =
-    ap (λ m. has (record { bits = bit_or bits (1 * 2 ^ m % 65536) }) other) e
-    ∙ ap (λ m. has (record { bits = bit_or bits m }) other) (fits k)
-    ∙ with_bit bits (kind_bit k) (kind_bit other)
-    ∙ ap (λ b. ((kind_bit k == kind_bit other) && b) || has (record { bits = bits }) other) (sym h)
+with_kind bits k other n holds e h = grind (arith, fits, with_bit)
 
 -- ---- kinds from a number on
 
@@ -62,30 +38,23 @@ drop_kind _ h = refl
 
 pub named_in : (set : Expected) (k : PieceKind) (n : ℕ) → kind_bit k ≡ n → n < 12 → has set k ≡ true →
     named_from set n ≡ k ∷ named_from set (n + 1)
-named_in set k n e h y = subst (λ (m : ℕ). named_from set m ≡ k ∷ named_from set (m + 1)) e
-    (ap (filter (has set)) (drop_kind k (omega arith)) ∙ rw y refl)
+named_in set k n e h y = grind (arith, drop_kind)
 
 pub named_out : (set : Expected) (k : PieceKind) (n : ℕ) → kind_bit k ≡ n → n < 12 → has set k ≡ false →
     named_from set n ≡ named_from set (n + 1)
-named_out set k n e h y = subst (λ (m : ℕ). named_from set m ≡ named_from set (m + 1)) e
-    (ap (filter (has set)) (drop_kind k (omega arith)) ∙ rw y refl)
+named_out set k n e h y = grind (arith, drop_kind)
 
 -- what is written from a number on: what stands before the next words, these, and the rest
 pub rest_is : (set : Expected) (k : PieceKind) (number n : ℕ) (before words : Text) → n ≡ kind_bit k →
     named_from set number ≡ k ∷ named_from set (kind_bit k + 1) →
     before ≡ before_next (named_from set (n + 1)) → words ≡ kind_words k →
     before ++ (words ++ after_first (named_from set (n + 1))) ≡ after_first (named_from set number)
-rest_is set k number n before words en e eb ew =
-    ap₂ (λ (b w : Text). b ++ (w ++ after_first (named_from set (n + 1)))) eb ew
-    ∙ ap (λ m. before_next (named_from set (m + 1))
-    ++ (kind_words k ++ after_first (named_from set (m + 1)))) en
-    ∙ sym (ap after_first e)
+rest_is set k number n before words en e eb ew = grind arith
 
 pub whole_is : (set : Expected) (k : PieceKind) (n : ℕ) (words : Text) → n ≡ kind_bit k →
     named_from set 0 ≡ k ∷ named_from set (kind_bit k + 1) → words ≡ kind_words k →
     words ++ after_first (named_from set (n + 1)) ≡ words_of set
-whole_is set k n words en e ew =
-    ap₂ (λ (w : Text) m. w ++ after_first (named_from set (m + 1))) ew en ∙ sym (ap (words_of_kinds set) e)
+whole_is set k n words en e ew = grind arith
 
 -- an empty set has no kind
 pub none_has : (k : PieceKind) → has (record { bits = 0 }) k ≡ false

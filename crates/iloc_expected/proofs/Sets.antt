@@ -1,6 +1,6 @@
 -- The kinds that may come after what was read are those that may stand there.
-use Rattle.std.proofs.Common.{◌≡◌, ◌≢◌, ◌↔◌, ℕ, ◌<◌, ◌^◌, Bool, true, false, not, ◌&&◌, ◌||◌, ◌==◌, List, []}
-use Rattle.std.proofs.Common.{◌∷◌, ◌++◌, length, Option, Some, None, is_some, is_none, refl, sym, ap, ap₂}
+use Rattle.std.proofs.Common.{◌≡◌, ◌≢◌, ℕ, ◌<◌, ◌^◌, Bool, true, false, not, ◌&&◌, ◌||◌, ◌==◌, List}
+use Rattle.std.proofs.Common.{[], ◌∷◌, ◌++◌, length, Option, Some, None, is_some, is_none, refl, sym, ap}
 use Rattle.std.proofs.Common.{◌∙◌, subst, true≢false, append-nil, arith}
 use Rattle.std.specs.List.{AllByRecursion}
 use Rattle.std.specs.Int.{bit_at}
@@ -9,8 +9,6 @@ use Rattle.iloc_spec_grammar.proofs.PiecesLaws.{pieces-join}
 use Rattle.iloc_spec_grammar.proofs.ReadBack.{all_append}
 use Rattle.iloc_normalize.specs.declared.Mode.{Mode}
 use Rattle.iloc_faults.specs.declared.state.Part.{Part}
-use Rattle.iloc_faults.specs.declared.state.Part.TheVariants.{Head, Source, Keyword}
-use Rattle.iloc_faults.specs.declared.state.Stage.TheVariants.{Language}
 use Rattle.iloc_faults.specs.Next.{Reached, started, may_end, next, outcome, run}
 use Rattle.iloc_faults.specs.States.{reached}
 use Rattle.iloc_faults.specs.Places.{GoOn}
@@ -46,13 +44,7 @@ HasOthers part keyed = (has (record { bits = piece_bits part keyed }) kinds.Vari
     × (has (record { bits = piece_bits part keyed }) kinds.End ≡ false)
 
 others : (part : Part) (keyed : Bool) → HasOthers part keyed
-others (Head Language) keyed = (refl, refl, refl)
-others (Head _) keyed = (refl, refl, refl)
-others (Source Language) keyed = (refl, refl, refl)
-others (Source _) keyed = (refl, refl, refl)
-others Keyword true = (refl, refl, refl)
-others Keyword false = (refl, refl, refl)
-others _ keyed = (refl, refl, refl)
+others part keyed = grind arith
 
 or_none : (a b : Bool) → b ≡ false → (a || b) ≡ a
 or_none true b e = refl
@@ -67,13 +59,7 @@ pub with_all : (part : Part) (keyed : Bool) (mode : Mode) (none left : Bool) (wo
     ≡ (((kind_bit kinds.Singleton == kind_bit k) && may_begin_block mode part left) || has words k)) →
     ((k : PieceKind) → has set k ≡ (((kind_bit kinds.End == kind_bit k) && may_end part) || has all k))
     → (k : PieceKind) → has set k ≡ may_come mode part keyed none left k
-with_all part keyed mode none left words all set f g h kinds.Variant = h kinds.Variant ∙ g kinds.Variant
-    ∙ f kinds.Variant ∙ or_none _ _ ((others part keyed).0)
-with_all part keyed mode none left words all set f g h kinds.Singleton = h kinds.Singleton ∙ g kinds.Singleton
-    ∙ or_none _ _ (f kinds.Singleton ∙ (others part keyed).1)
-with_all part keyed mode none left words all set f g h kinds.End = h kinds.End
-    ∙ or_none _ _ (g kinds.End ∙ f kinds.End ∙ (others part keyed).2)
-with_all part keyed mode none left words all set f g h k = h k ∙ g k ∙ f k
+with_all part keyed mode none left words all set h e f k = grind (arith, or_none, others)
 
 -- the same by what the functions gave
 pub with_these : (part : Part) (keyed : Bool) (mode : Mode) (none left : Bool) (words all set : Expected)
@@ -84,12 +70,7 @@ pub with_these : (part : Part) (keyed : Bool) (mode : Mode) (none left : Bool) (
     ((k : PieceKind) → has all k ≡ (((kind_bit kinds.Singleton == kind_bit k) && s) || has words k)) →
     ((k : PieceKind) → has set k ≡ (((kind_bit kinds.End == kind_bit k) && e) || has all k)) →
     (k : PieceKind) → has set k ≡ may_come mode part keyed none left k
-with_these part keyed mode none left words all set v s e n ev es ee en f g h =
-    with_all part keyed mode none left words all set
-    (λ k. f k ∙ ap₂ (λ (b : Bool) (m : ℕ). ((kind_bit kinds.Variant == kind_bit k) && b)
-    || has (record { bits = m }) k) ev en)
-    (λ k. g k ∙ ap (λ (b : Bool). ((kind_bit kinds.Singleton == kind_bit k) && b) || has words k) es)
-    (λ k. h k ∙ ap (λ (b : Bool). ((kind_bit kinds.End == kind_bit k) && b) || has all k) ee)
+with_these part keyed mode none left words all set v s e n ev es ee en f g h = grind (arith, with_all)
 
 -- ---- the end
 
@@ -105,8 +86,7 @@ module _ {mode : Mode} {ps : List Text} {r : Reading} (h : IsReading mode ps r) 
   ends_if false e = rw e refl
 
   end_may : MayEnd mode ps → may_end r.state.part ≡ true
-  end_may (t, a, e) = sym (ends_if _ refl) ∙ ap fine (sym at_end)
-      ∙ ap (λ qs. fine (outcome mode started qs)) (sym e) ∙ (accepted_is mode t).0 a
+  end_may h = grind (arith, ends_if, fine, at_end, accepted_is)
 
   -- a text has these pieces
   joined : (qs : List Text) → AllByRecursion IsHyphenFree qs → qs ≢ [] → pieces (join qs) ≡ qs
@@ -114,26 +94,15 @@ module _ {mode : Mode} {ps : List Text} {r : Reading} (h : IsReading mode ps r) 
   joined (q ∷ qs) f n = pieces-join q qs f
 
   some_pieces : may_end r.state.part ≡ true → ps ≢ []
-  some_pieces e z =
-      let same : Some started ≡ Some now = sym (ap (run mode (Some started)) z) ∙ h.ran in
-      let alike : started ≡ now = cc in
-      let part : started.part ≡ r.state.part = ap (λ (x : Reached). x.part) alike in
-      let no : may_end r.state.part ≡ false = ap may_end (sym part) in
-      true≢false (sym e ∙ no)
+  some_pieces e z = grind arith
 
   may_end_is : may_end r.state.part ≡ true → MayEnd mode ps
-  may_end_is e =
-      let cut = joined ps h.free (some_pieces e) in (
-        join ps,
-        (accepted_is mode (join ps)).1
-            (ap (λ qs. fine (outcome mode started qs)) cut ∙ ap fine at_end ∙ ends_if true e),
-        cut,
-      )
+  may_end_is e = grind (arith, joined, some_pieces, accepted_is, fine, at_end, ends_if)
 
   -- ---- a piece more
 
   with_one : (p : Text) → run mode (Some started) (ps ++ (p ∷ [])) ≡ run mode (next mode now p) []
-  with_one p = run_append mode (Some started) ps (p ∷ []) ∙ ap (λ o. run mode o (p ∷ [])) h.ran
+  with_one p = grind (arith, run_append)
 
   same_run : (o : Option Reached) → run mode o [] ≡ o
   same_run None = refl
@@ -194,12 +163,7 @@ module _ {mode : Mode} {ps : List Text} {r : Reading} (h : IsReading mode ps r) 
       has_next kind (plain_piece mode r.state.part h.variants h.seen r.keyed (place_after ps) kind h.place e)
 
   pub none_if : AreNone h.variants (is_none r.state.variants) × AreSome h.variants (is_none r.state.variants)
-  none_if = by r.state.variants h.none_are
-    where
-      by : (o : Option ℕ) → (o ≡ None) ↔ (h.variants ≡ []) → AreNone h.variants (is_none o)
-          × AreSome h.variants (is_none o)
-      by None k = ((λ e. absurd (true≢false e)), (λ e. k.0 refl))
-      by (Some x) k = ((λ e z. let f = k.1 z in cc), (λ e. absurd (true≢false (sym e))))
+  none_if = grind (arith, AreNone, AreSome)
 
   -- so the set is that of the kinds that may stand
   pub all_are : (set : Expected) (none left : Bool) → none ≡ is_none r.state.variants →
@@ -223,14 +187,10 @@ module _ {mode : Mode} {ps : List Text} {r : Reading} (h : IsReading mode ps r) 
 
 -- whether it is none, as `is_none` says it
 pub none_of : (o : Option ℕ) (b : Bool) → is_some o ≡ not b → b ≡ is_none o
-none_of None true e = refl
-none_of None false e = absurd (true≢false (sym e))
-none_of (Some n) true e = absurd (true≢false e)
-none_of (Some n) false e = refl
+none_of o b h = grind arith
 
 -- nothing may stand where the pieces do not go on
 pub none_stand : (mode : Mode) (ps : List Text) → ¬ (GoOn mode ps) → (kind : PieceKind) →
     ¬ (MayStand mode ps kind)
-none_stand mode ps n kinds.End (t, a, e) =
-    n (record { text = t; accepted = a; rest = []; begins = e ∙ sym (append-nil ps) })
+none_stand mode ps n kinds.End (t, a, e) = grind (arith, append-nil)
 none_stand mode ps n kind x = n (fewer ps (x.piece ∷ []) x.go_on)

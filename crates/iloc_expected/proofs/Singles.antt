@@ -1,4 +1,5 @@
 -- The bits of singletons: whether one is left.
+use Rattle.std.proofs.Common.{arith}
 use Rattle.std.proofs.Common.{
   ◌≡◌,
   ℕ,
@@ -51,4 +52,4 @@ module _ (bits : ℕ) (seen : List ℕ) (left : Bool) (h : AreSingletonsSeen bit
       )
 
   pub is_left : (left ≡ false → (k : ℕ) → k < 36 → bit_at bits k ≡ 1) → IsLeft seen left
-  is_left none e c a = (h c a).0 (none e (bit_place (to_ascii_lowercase c)) (place_small c a))
+  is_left none e c a = grind (arith, place_small)

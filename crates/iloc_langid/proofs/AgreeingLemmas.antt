@@ -11,16 +11,15 @@ use Rattle.std.specs.declared.cmp.Ordering.TheVariants.{Less, Equal, Greater}
 use Rattle.std.proofs.lemmas.Bool.{and_parts, and_from, or_parts, false_from_ne_true}
 use Rattle.std.proofs.lemmas.List.{length-map}
 use Rattle.iloc_spec_grammar.specs.Syntax.{Text, Language, Script, Region, Variant, is_word, IsWord, lower}
-use Rattle.iloc_spec_grammar.specs.Syntax.{title}
-use Rattle.iloc_spec_grammar.specs.Syntax.{upper, word_cmp, is_same, languages, SpelledIdentifier, Identifier}
-use Rattle.iloc_spec_grammar.specs.Syntax.{AllDifferent, first_piece}
+use Rattle.iloc_spec_grammar.specs.Syntax.{title, upper, word_cmp, is_same, languages, SpelledIdentifier}
+use Rattle.iloc_spec_grammar.specs.Syntax.{Identifier, AllDifferent, first_piece}
 use Rattle.iloc_spec_grammar.specs.Meaning.{IdentifierMeans, set_of, map_of}
-use Rattle.iloc_spec_grammar.specs.Values.{IsNormal, StrictlyAscends, Reordered, none, front_kept, first_two}
-use Rattle.iloc_spec_grammar.specs.Values.{in_turn}
+use Rattle.iloc_spec_grammar.specs.Values.{IsNormal, StrictlyAscends, Reordered, none, front_kept}
+use Rattle.iloc_spec_grammar.specs.Values.{first_two, in_turn}
 use Rattle.iloc_spec_grammar.proofs.WordsLaws.{is_word-lower}
 use Rattle.iloc_spec_grammar.proofs.MapLaws.{word_cmp_total, same_itself, same_is}
-use Rattle.iloc_spec_grammar.proofs.Orders.{itself, turned, any_reordered, all_reordered, different_reordered}
-use Rattle.iloc_spec_grammar.proofs.Orders.{length_reordered, set_of_reordered}
+use Rattle.iloc_spec_grammar.proofs.Orders.{itself, turned, any_reordered, all_reordered}
+use Rattle.iloc_spec_grammar.proofs.Orders.{different_reordered, length_reordered, set_of_reordered}
 use Rattle.iloc_spec_grammar.proofs.ValuesLaws.{set_of_ascending, ascending_different}
 use Rattle.iloc_langid.proofs.WalkLemmas.{apart}
 use Rattle.iloc_langid.specs.Agreeing.{is_among, are_all_among}
@@ -35,7 +34,7 @@ use Rattle.iloc_langid.proofs.SmallLemmas.{parts_are, after_region-pieces, past_
 
 among-any : (ps : List Text) (w : Text) → is_among ps w ≡ list_any (is_same w) (map lower ps)
 among-any [] w = refl
-among-any (p ∷ ps) w = ap (λ b. is_same w (lower p) || b) (among-any ps w)
+among-any (p ∷ ps) w = grind (arith, among-any ps w)
 
 -- a word that is there, taken to the front
 taken_out : (w : Text) (qs : List Text) → list_any (is_same w) qs ≡ true →
@@ -145,14 +144,7 @@ each_there : (ws qs : List Text) →
     ((w : Text) → list_any (is_same w) ws ≡ true → list_any (is_same w) qs ≡ true) →
     AllByRecursion (λ w. list_any (is_same w) qs ≡ true) ws
 each_there [] qs f = tt
-each_there (w ∷ ws) qs f = (
-  f w (ap (λ b. b || list_any (is_same w) ws) (same_itself w)),
-  each_there ws qs (λ v h. f v (or_later (is_same v w) _ h)),
-)
-  where
-    or_later : (a b : Bool) → b ≡ true → (a || b) ≡ true
-    or_later true b h = refl
-    or_later false b h = h
+each_there (w ∷ ws) qs f = grind (arith, same_itself, each_there ws qs)
 
 pub these_are : (ps ws : List Text) → AreThese ps ws →
     (length ps ≡ length ws) × (are_all_among ps ws ≡ true)
@@ -186,8 +178,7 @@ module _ (ps : List Text) (first : Text) (qs rs us : List Text) (i : LanguageIde
     (re : r ≡ option_map upper (take_first (is_word Region) rs))
     (eu : us ≡ skip_first (is_word Region) rs) where
   after : us ≡ after_region ps
-  after =
-      eu ∙ ap (skip_first (is_word Region)) (er ∙ ap (λ x. skip_first (is_word Script) (rest_of x)) (sym e))
+  after = grind arith
 
   module _ (m : IdentifierMeans languages ps (value_of i)) where
     front_is : front_of ps ≡ m.written

@@ -1,5 +1,5 @@
 -- Identifiers, as the tests of their parts tell them equal.
-use Rattle.std.proofs.Common.{◌≡◌, true, ◌&&◌, List, [], ◌∷◌, Option, Some, None, refl, sym, subst, nat_eq}
+use Rattle.std.proofs.Common.{◌≡◌, true, ◌&&◌, List, [], ◌∷◌, refl, sym, nat_eq, arith}
 use Rattle.std.proofs.lemmas.Bool.{and_parts, and_from}
 use Rattle.std.proofs.lemmas.Cmp.{nat_list_eq_equiv}
 use Rattle.std.specs.Cmp.Lexicographic.{pointwise, same_text}
@@ -21,11 +21,7 @@ words_themselves [] = refl
 words_themselves (w ∷ ws) = and_from _ _ (nat_list_eq_equiv.refl w) (words_themselves ws)
 
 pub equal_words : (vs ws : List Text) → vs ≡ ws → pointwise (pointwise nat_eq) vs ws ≡ true
-equal_words vs ws e = subst (λ x. pointwise (pointwise nat_eq) vs x ≡ true) e (words_themselves vs)
-
-option_itself : (a : Option Text) → option_eq (pointwise nat_eq) a a ≡ true
-option_itself None = refl
-option_itself (Some w) = nat_list_eq_equiv.refl w
+equal_words vs ws e = grind (arith, words_themselves)
 
 -- each part is told equal
 abbrev AreEqual : Identifier → Identifier → Type 0
@@ -47,7 +43,4 @@ same_value i j h =
     }
 
 pub equal_values : (i j : LanguageIdentifier) → value_of i ≡ value_of j → AreEqual (value_of i) (value_of j)
-equal_values i j e =
-    subst (AreEqual (value_of i)) e
-    (and_from _ _ (nat_list_eq_equiv.refl i.language) (and_from _ _ (option_itself i.script)
-    (and_from _ _ (option_itself i.region) (words_themselves i.variants))))
+equal_values i j e = grind (arith, and_from, nat_list_eq_equiv, words_themselves)

@@ -1,28 +1,23 @@
 -- From what a front is read as to what the whole or the head is read as.
-use Rattle.std.specs.Prelude.{⊤}
-use Rattle.std.proofs.Common.{◌≡◌, ◌≢◌, ◌<◌, inl, inr, Bool, true, false, List, [], ◌∷◌, ◌++◌, length}
-use Rattle.std.proofs.Common.{refl, sym, ap, ◌∙◌, subst, append-nil, cond, Some, None, option_map, Result, Ok}
-use Rattle.std.proofs.Common.{Err, true≢false}
+use Rattle.std.proofs.Common.{◌≡◌, ◌≢◌, inl, inr, true, false, List, [], ◌∷◌, ◌++◌, refl, sym, ap, ◌∙◌}
+use Rattle.std.proofs.Common.{subst, append-nil, Some, None, option_map, Result, Ok, Err, true≢false, arith}
 use Rattle.std.specs.Result.{result_and}
 use Rattle.iloc_spec_grammar.specs.Syntax.{Text, Language, Script, Region, is_word, IsWord, normal, lower}
-use Rattle.iloc_spec_grammar.specs.Syntax.{title}
-use Rattle.iloc_spec_grammar.specs.Syntax.{upper, languages, first_piece, front, head}
+use Rattle.iloc_spec_grammar.specs.Syntax.{title, upper, languages, first_piece, front, head}
 use Rattle.iloc_spec_grammar.specs.Meaning.{IdentifierMeans, HasIdentifierFault, not_a_language}
 use Rattle.iloc_spec_grammar.specs.Meaning.{not_an_identifier}
-use Rattle.iloc_spec_grammar.specs.Reading.{first_item}
-use Rattle.iloc_spec_grammar.specs.Reading.{take_first, skip_first, after_region, front_of, after_front}
-use Rattle.iloc_spec_grammar.specs.Reading.{from_block, after_head, starts_block}
-use Rattle.iloc_spec_grammar.proofs.ReadingLaws.{EndsWords, starts_ends, from_block_starts, front-from_block}
-use Rattle.iloc_spec_grammar.proofs.ReadingLaws.{front_long, after_long, starts_empty, after_front-append}
-use Rattle.iloc_spec_grammar.proofs.ReadingLaws.{front_means, refuses_more, refuses_repeat, front_of-append}
-use Rattle.iloc_spec_grammar.proofs.ReadingLaws.{front_is_front}
+use Rattle.iloc_spec_grammar.specs.Reading.{first_item, take_first, skip_first, front_of}
+use Rattle.iloc_spec_grammar.specs.Reading.{after_front, from_block, after_head, starts_block}
+use Rattle.iloc_spec_grammar.proofs.ReadingLaws.{EndsWords, starts_ends, from_block_starts}
+use Rattle.iloc_spec_grammar.proofs.ReadingLaws.{front-from_block, front_long, after_long, starts_empty}
+use Rattle.iloc_spec_grammar.proofs.ReadingLaws.{after_front-append, front_means, refuses_more}
+use Rattle.iloc_spec_grammar.proofs.ReadingLaws.{refuses_repeat, front_of-append, front_is_front}
 use Rattle.iloc_spec_grammar.specs.Reading.{IdentifierFront}
 use Rattle.iloc_subtags.specs.declared.parse_error.ParseError.{ParseError}
 use Rattle.iloc_subtags.specs.declared.parse_error.ParseError.TheVariants.{InvalidLanguage, InvalidSubtag}
 use Rattle.iloc_subtags.specs.declared.parse_error.ParseError.TheVariants.{InvalidExtension}
 use Rattle.iloc_subtags.specs.declared.parse_error.ParseError.TheVariants.{DuplicatedExtension, OutOfMemory}
 use Rattle.iloc_subtags.specs.Judging.{Answers, RunsOutOnlyIf}
-use Rattle.iloc_subtags.proofs.Judged.{without_memory, runs_out}
 use Rattle.iloc_langid.specs.declared.identifier.LanguageIdentifier.{LanguageIdentifier}
 use Rattle.iloc_langid.specs.declared.plain.PlainParts.{PlainParts}
 use Rattle.iloc_langid.specs.PlainReads.{IsPlainFront}
@@ -40,14 +35,7 @@ no_language h = absurd (true≢false (sym h ∙ no_empty_language))
 pub none_first : (ps : List Text) →
     None ≡ option_map (normal (Language languages)) (take_first (is_word (Language languages)) ps) →
     is_word (Language languages) (first_piece ps) ≡ false
-none_first [] e = no_empty_language
-none_first (p ∷ ps) e = by (is_word (Language languages) p) refl e
-  where
-    by : (b : Bool) → is_word (Language languages) p ≡ b →
-        None ≡ option_map (normal (Language languages)) (cond b (Some p) None) →
-        is_word (Language languages) p ≡ false
-    by true h e = cc
-    by false h e = h
+none_first ps h = grind (arith, no_empty_language)
 
 -- the language, the script and the region, taken one after the other
 pub plain_front : (ps : List Text) (first : Text) (qs rs us : List Text) (plain : PlainParts)
@@ -55,15 +43,7 @@ pub plain_front : (ps : List Text) (first : Text) (qs rs us : List Text) (plain 
     → plain.script ≡ option_map title (take_first (is_word Script) qs) → rs ≡ skip_first (is_word Script) qs
     → plain.region ≡ option_map upper (take_first (is_word Region) rs) → us ≡ skip_first (is_word Region) rs
     → IsPlainFront ps us plain
-plain_front ps first qs rs us plain e w l s er r eu =
-    subst (λ x. IsPlainFront x us plain) (sym e)
-    (record {
-      word = w;
-      language = l;
-      script = s;
-      region = r ∙ ap (λ x. option_map upper (take_first (is_word Region) x)) er;
-      after = eu ∙ ap (skip_first (is_word Region)) er;
-    })
+plain_front ps first qs rs us plain e w l s er r eu = grind arith
 
 abbrev pub plain_of : LanguageIdentifier → PlainParts
 plain_of i = record { language = i.language; script = i.script; region = i.region }
@@ -72,36 +52,16 @@ plain_of i = record { language = i.language; script = i.script; region = i.regio
 module _ (ps us rest : List Text) (i : LanguageIdentifier) (plain : IsPlainFront ps us (plain_of i)) where
   pub front_gives : VariantsReads us rest (Ok i.variants) → FrontComputed ps rest (Ok i)
   unfolding front_of after_front
-  front_gives v =
-      let given : VariantsReads (after_region ps) rest (Ok i.variants) =
-      subst (λ x. VariantsReads x rest (Ok i.variants)) plain.after v in (
-        plain.word,
-        given.1,
-        (λ j. record {
-          language = plain.language j;
-          script = plain.script j;
-          region = plain.region j;
-          variants = given.0 j;
-        }),
-        given.2,
-      )
+  front_gives v = grind arith
 
   front_refuses : (f : ParseError) → VariantsReads us rest (Err f) → FrontComputed ps rest (Err f)
   unfolding front_of
-  front_refuses f v = by f (subst (λ x. VariantsReads x rest (Err f)) plain.after v)
-    where
-      by : (f : ParseError) → VariantsReads (after_region ps) rest (Err f) → FrontComputed ps rest (Err f)
-      by InvalidSubtag v = inr (refl, (plain.word, v.1))
-      by OutOfMemory v = (plain.word, v)
-      by InvalidLanguage v = let other = v.0 in cc
-      by InvalidExtension v = let other = v.0 in cc
-      by DuplicatedExtension v = let other = v.0 in cc
+  front_refuses f v = grind arith
 
   -- by the answer of what fills in the variants
   pub front_filled : (r : Result (Unit {0}) ParseError) →
       VariantsReads us rest (result_and r (Ok i.variants)) → FrontComputed ps rest (result_and r (Ok i))
-  front_filled (Ok _) v = front_gives v
-  front_filled (Err f) v = front_refuses f v
+  front_filled r h = grind (arith, front_gives, front_refuses)
 
 -- what the pieces are read as, and when memory may run out
 abbrev pub ReadsWithMemory : List Text → Result LanguageIdentifier ParseError → Type 0
@@ -112,13 +72,11 @@ ReadsWithMemory ps = Answers (λ i. IdentifierMeans languages ps (value_of i))
 
 pub refused_reads : (ps : List Text) (f : ParseError) → ReadsWithMemory ps (Err f) →
     IdentifierReads ps (Err f)
-refused_reads ps f h = without_memory (λ (i : LanguageIdentifier). IdentifierMeans languages ps (value_of i))
-    (HasIdentifierFault languages ps) (IdentifierWantsMemory ps) (Err f) h
+refused_reads ps f h = grind arith
 
 pub refused_wants : (ps : List Text) (f : ParseError) → ReadsWithMemory ps (Err f) →
     RunsOutOnlyIf {X = Unit {0}} (IdentifierWantsMemory ps) (Err f)
-refused_wants ps f h =
-    runs_out (λ (x : Unit {0}). ⊤) (HasIdentifierFault languages ps) (IdentifierWantsMemory ps) (Err f) h
+refused_wants ps f h = grind arith
 
 -- where the front should end before rest
 module _ (p : Text) (qs rest : List Text) (ends : EndsWords rest) (r : List Text) where
@@ -128,7 +86,7 @@ module _ (p : Text) (qs rest : List Text) (ends : EndsWords rest) (r : List Text
   cut_refuses InvalidLanguage (inr g) = let other = g.0 in cc
   cut_refuses InvalidSubtag (inl g) = let other = g.0 in cc
   cut_refuses InvalidSubtag (inr g) = not_an_identifier g.1.0 (refuses_repeat languages p qs rest ends g.1.1)
-  cut_refuses OutOfMemory g = (g.0, subst (λ i. 4 < length i.variants) (front_of-append p qs rest ends) g.1)
+  cut_refuses OutOfMemory g = grind (arith, front_of-append)
   cut_refuses InvalidExtension (inl g) = let other = g.0 in cc
   cut_refuses InvalidExtension (inr g) = let other = g.0 in cc
   cut_refuses DuplicatedExtension (inl g) = let other = g.0 in cc
@@ -136,8 +94,7 @@ module _ (p : Text) (qs rest : List Text) (ends : EndsWords rest) (r : List Text
 
   cut_gives : (i : LanguageIdentifier) → FrontComputed (p ∷ (qs ++ rest)) r (Ok i) → r ≡ rest →
       IdentifierReads (p ∷ qs) (Ok i)
-  cut_gives i g e = subst (IdentifierMeans languages (p ∷ qs)) (sym g.2)
-      (front_means languages p qs rest ends g.0 g.1 (sym g.3 ∙ e))
+  cut_gives i g e = grind (arith, front_means)
 
   cut_more : (i : LanguageIdentifier) → FrontComputed (p ∷ (qs ++ rest)) r (Ok i) → r ≢ rest →
       IdentifierReads (p ∷ qs) (Err InvalidSubtag)
@@ -150,7 +107,7 @@ ends_nowhere = record { script = tt; region = tt; variant = tt }
 
 at_end : (p : Text) (ps r : List Text) (x : Result LanguageIdentifier ParseError) →
     FrontComputed (p ∷ ps) r x → FrontComputed (p ∷ (ps ++ [])) r x
-at_end p ps r x g = subst (λ l. FrontComputed (p ∷ l) r x) (sym (append-nil ps)) g
+at_end p ps r x g = grind (arith, append-nil)
 
 pub whole_refuses : (ps r : List Text) (f : ParseError) → FrontComputed ps r (Err f) →
     ReadsWithMemory ps (Err f)
@@ -179,7 +136,7 @@ whole_more (p ∷ ps) r i g n = cut_more p ps [] ends_nowhere r i (at_end p ps r
 
 at_block : (p : Text) (ps r : List Text) (x : Result LanguageIdentifier ParseError) →
     FrontComputed (p ∷ ps) r x → FrontComputed (p ∷ (front ps ++ from_block ps)) r x
-at_block p ps r x g = subst (λ l. FrontComputed (p ∷ l) r x) (sym (front-from_block ps)) g
+at_block p ps r x g = grind (arith, front-from_block)
 
 block_ends : (ps : List Text) → EndsWords (from_block ps)
 block_ends ps = starts_ends (from_block ps) (from_block_starts ps)

@@ -1,11 +1,8 @@
 -- From the words at the front and the pieces after them to the whole text.
-use Rattle.std.proofs.Common.{◌≡◌, ◌≢◌, ℕ, Bool, true, false, cond, List, [], ◌∷◌, refl, sym, ap, ◌∙◌, subst}
-use Rattle.std.proofs.Common.{arith, Option, Some, None, option_map, Result, Ok, Err, MatchResult, true≢false}
-use Rattle.std.proofs.lemmas.Bool.{false_from_ne_true}
-use Rattle.std.proofs.lemmas.Bool.Decides.{nat_tests}
+use Rattle.std.proofs.Common.{◌≡◌, ◌≢◌, ℕ, Bool, true, false, List, [], ◌∷◌, sym, ap, ◌∙◌}
+use Rattle.std.proofs.Common.{subst, arith, Option, Some, None, Result, Ok, Err, MatchResult}
 use Rattle.iloc_spec_grammar.specs.Syntax.{Text, pieces, Language, Script, Region, Variant, is_word, IsWord}
-use Rattle.iloc_spec_grammar.specs.Syntax.{lower}
-use Rattle.iloc_spec_grammar.specs.Syntax.{title, upper, languages, is_one_byte, front, blocks, head}
+use Rattle.iloc_spec_grammar.specs.Syntax.{languages, is_one_byte, front, blocks, head}
 use Rattle.iloc_spec_grammar.specs.Syntax.{tail_blocks, first_piece}
 use Rattle.iloc_spec_grammar.specs.Reading.{take_first, skip_first, after_region, starts_block}
 use Rattle.iloc_spec_grammar.specs.Meaning.{Fault}
@@ -26,54 +23,35 @@ use Rattle.iloc_subtags.specs.declared.parse_error.ParseError.TheVariants.{Inval
 use Rattle.iloc_subtags.specs.declared.parse_error.ParseError.TheVariants.{DuplicatedExtension, OutOfMemory}
 use Rattle.iloc_langid.specs.SmallLocaleReads.{Keyword, LocaleParts, small_locale_of, SmallLocaleTextReads}
 use Rattle.iloc_langid.specs.BlockReads.{answer_of, block_result}
-use Rattle.iloc_langid.proofs.BlockLemmas.{blocks_past, with_keyword, blocks_read}
+use Rattle.iloc_langid.proofs.BlockLemmas.{with_keyword, blocks_read}
 use Rattle.iloc_subtags.specs.Judging.{error_of}
 use Rattle.iloc_normalize.proofs.BlockFaults.{head_region}
 
 -- a word of an identifier is longer than one byte
 
 long_script : (p : Text) → IsWord Script p → is_one_byte p ≡ false
-long_script p h = let l = length-script p h in grind (arith, nat_tests)
+long_script p h = grind (arith, length-script)
 
 long_region : (p : Text) → IsWord Region p → is_one_byte p ≡ false
-long_region p h = let l = length-region p h in grind (arith, nat_tests)
+long_region p h = grind (arith, length-region)
 
 long_variant : (p : Text) → IsWord Variant p → is_one_byte p ≡ false
-long_variant p h = let l = length-variant p h in grind (arith, nat_tests)
+long_variant p h = grind (arith, length-variant)
 
 -- so words are taken from the head alone
 
 module _ (test : Text → Bool) (long : (p : Text) → test p ≡ true → is_one_byte p ≡ false) where
   no_word : (p : Text) → is_one_byte p ≡ true → test p ≡ false
-  no_word p e = false_from_ne_true (test p) (λ w. true≢false (sym e ∙ long p w))
+  no_word p e = grind arith
 
   take_front : (ps : List Text) → take_first test (front ps) ≡ take_first test ps
-  take_front [] = refl
-  take_front (p ∷ ps) = by (is_one_byte p) refl
-    where
-      by : (b : Bool) → is_one_byte p ≡ b →
-          take_first test (cond b [] (p ∷ front ps)) ≡ take_first test (p ∷ ps)
-      by true e = rw (no_word p e) refl
-      by false e = refl
+  take_front ps = grind arith
 
   skip_front : (ps : List Text) → skip_first test (front ps) ≡ front (skip_first test ps)
-  skip_front [] = refl
-  skip_front (p ∷ ps) = by (is_one_byte p) (test p) refl refl
-    where
-      by : (b d : Bool) → is_one_byte p ≡ b → test p ≡ d →
-          skip_first test (cond b [] (p ∷ front ps)) ≡ front (cond d ps (p ∷ ps))
-      by true true e w = absurd (true≢false (sym w ∙ no_word p e))
-      by true false e w = rw e refl
-      by false true e w = rw w refl
-      by false false e w = rw (w, e) refl
+  skip_front ps = grind arith
 
   skip_blocks : (ps : List Text) → blocks (skip_first test ps) ≡ blocks ps
-  skip_blocks [] = refl
-  skip_blocks (p ∷ ps) = by (test p) refl
-    where
-      by : (d : Bool) → test p ≡ d → blocks (cond d ps (p ∷ ps)) ≡ blocks (p ∷ ps)
-      by true w = sym (blocks_past p ps (long p w))
-      by false w = refl
+  skip_blocks ps = grind arith
 
 script_front : (ps : List Text) →
     skip_first (is_word Script) (front ps) ≡ front (skip_first (is_word Script) ps)
@@ -87,16 +65,10 @@ script_at_front ps = take_front (is_word Script) long_script ps
 pub region_at_front : (ps : List Text)
     → take_first (is_word Region) (skip_first (is_word Script) (front ps))
     ≡ take_first (is_word Region) (skip_first (is_word Script) ps)
-region_at_front ps = ap (take_first (is_word Region)) (script_front ps)
-    ∙ take_front (is_word Region) long_region (skip_first (is_word Script) ps)
+region_at_front ps = grind (arith, script_front, take_front, long_region)
 
 front_parts-front : (p : Text) (ps : List Text) → front_parts (p ∷ front ps) ≡ front_parts (p ∷ ps)
-front_parts-front p ps =
-    let s = script_at_front ps in
-    let r = region_at_front ps in
-    let v = ap (take_first (is_word Variant)) (head_region p ps)
-    ∙ take_front (is_word Variant) long_variant (after_region (p ∷ ps)) in
-    λ i. (lower p, option_map title (s i), option_map upper (r i), option_map lower (v i))
+front_parts-front p ps = grind (arith, script_at_front, region_at_front, take_front, long_variant)
 
 after_parts-front : (p : Text) (ps : List Text) →
     after_parts (p ∷ front ps) ≡ front (after_parts (p ∷ ps))
@@ -104,10 +76,7 @@ after_parts-front p ps = ap (skip_first (is_word Variant)) (head_region p ps)
     ∙ skip_front (is_word Variant) long_variant (after_region (p ∷ ps))
 
 blocks-after_parts : (p : Text) (ps : List Text) → blocks (after_parts (p ∷ ps)) ≡ blocks ps
-blocks-after_parts p ps =
-    skip_blocks (is_word Variant) long_variant (after_region (p ∷ ps))
-    ∙ skip_blocks (is_word Region) long_region (skip_first (is_word Script) ps)
-    ∙ skip_blocks (is_word Script) long_script ps
+blocks-after_parts p ps = grind (arith, skip_blocks, long_variant, long_region, long_script)
 
 -- what is read from all pieces is read from the head, and what is left begins with the blocks
 
@@ -125,10 +94,7 @@ blocks_left (q ∷ ps) rest p g = sym (blocks-after_parts q ps) ∙ ap blocks (s
 -- the plain program on a head that is read
 
 no_pieces : {P : Type 0} (r : SmallIdentifier) → IsSmallIdentifier languages [] r → P
-no_pieces r h = absurd (empty (sym h.spelled))
-  where
-    empty : {q : Text} {qs : List Text} → q ∷ qs ≡ [] → ⊥
-    empty e = cc
+no_pieces r h = grind arith
 
 result_is : (ps : List Text) (r : SmallIdentifier) → IsSmallIdentifier languages ps r →
     small_identifier_result languages ps ≡ Ok r
@@ -144,10 +110,7 @@ result_is (p ∷ ps) r h =
 
 fault_reads : (t : Text) (f : Fault) → HasSmallFault languages t f →
     SmallLocaleTextReads t (Err (error_of f))
-fault_reads t faults.InvalidLanguage h = h
-fault_reads t faults.InvalidSubtag h = h
-fault_reads t faults.InvalidExtension h = h
-fault_reads t faults.DuplicatedExtension h = h
+fault_reads t f h = grind arith
 
 -- The whole text, where its head is read and these pieces are left.
 
@@ -168,9 +131,7 @@ module _ (t : Text) (ps rest : List Text) (p : Parts) (e : ps ≡ pieces t)
 
   answer_at : (o : Result SmallLocale Fault) → small_result languages t ≡ o →
       MatchResult o (IsSmall languages t) (HasSmallFault languages t)
-  answer_at o is = subst
-      (λ (r : Result SmallLocale Fault). MatchResult r (IsSmall languages t) (HasSmallFault languages t)) is
-      (small_answer languages_table t)
+  answer_at o is = grind (arith, small_answer, languages_table)
 
   pub nothing_more : rest ≡ [] → SmallLocaleTextReads t (Ok (with_parts p None))
   unfolding after_identifier blocks_result
@@ -185,11 +146,7 @@ module _ (t : Text) (ps rest : List Text) (p : Parts) (e : ps ≡ pieces t)
       (parts_more (head ps) (front rest) p (head_gives ps rest p g) (some rest more))
     where
       some : (qs : List Text) → starts_block qs ≡ false → front qs ≢ []
-      some [] h = absurd (true≢false h)
-      some (q ∷ later) h = λ none. nonempty (sym (ap (λ b. cond b [] (q ∷ front later)) h) ∙ none)
-        where
-          nonempty : q ∷ front later ≡ [] → ⊥
-          nonempty h = cc
+      some qs h = grind arith
 
   module _ (c : ℕ) (later : List Text) (n : rest ≡ (c ∷ []) ∷ later) where
     block_answer : MatchResult (with_keyword (small_of p) (block_result c later)) (IsSmall languages t)

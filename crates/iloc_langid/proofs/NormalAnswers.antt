@@ -1,6 +1,6 @@
 -- From what normalizing answers to what it owes a text: the text of what is meant, or the fault.
 use Rattle.std.specs.Prelude.{⊤}
-use Rattle.std.proofs.Common.{◌≡◌, refl, sym, ap, ◌∙◌, Result, Ok, Err, IfOk, IfErr}
+use Rattle.std.proofs.Common.{◌≡◌, sym, ap, ◌∙◌, Result, Ok, Err, IfOk, IfErr, arith}
 use Rattle.iloc_spec_grammar.specs.Meaning.{Fault}
 use Rattle.iloc_subtags.specs.declared.parse_error.ParseError.{ParseError}
 use Rattle.iloc_subtags.specs.Judging.{Answers, Refusal, Accepts, Refuses}
@@ -27,8 +27,7 @@ module _ {X M : Type 0} (bytes : X → Text) (print : M → Text) {Means : M →
 
   pub prints_accepts : {Q : X → Type 0} (r : Result X ParseError) → IfOk r Q → IfErr r (Refusal HasFault ⊤) →
       ((x : X) → Q x → IsPrinted (bytes x)) → (m : M) → Means m → Accepts bytes ⊤ (print m) r
-  prints_accepts r h k texts m is =
-      accepts bytes ⊤ prints_judge r (prints r h k texts) (print m) (m, is, refl)
+  prints_accepts r h k texts m is = grind (arith, accepts, prints_judge)
 
   pub prints_refuses : {Q : X → Type 0} (r : Result X ParseError) → IfOk r Q → IfErr r (Refusal HasFault ⊤) →
       ((x : X) → Q x → IsPrinted (bytes x)) → (f : Fault) → HasFault f → Refuses ⊤ f r

@@ -1,5 +1,5 @@
 -- The normal text of an identifier.
-use Rattle.std.proofs.Common.{◌≡◌, ◌≤◌, inr, false, true, length, sym, ap, ◌∙◌, subst, true≢false, arith}
+use Rattle.std.proofs.Common.{◌≡◌, ◌≤◌, false, true, length, sym, ap, ◌∙◌, subst, arith}
 use Rattle.iloc_spec_grammar.specs.Syntax.{Text, pieces, languages, Identifier}
 use Rattle.iloc_spec_grammar.specs.Meaning.{IdentifierMeans}
 use Rattle.iloc_spec_grammar.specs.Values.{identifier_text, IdentifierTextStep, Leads}
@@ -45,14 +45,14 @@ is_normalized input i t m e =
 -- memory was refused for the text of another than the input
 pub refuses_memory : (input : Text) (i : Identifier) → IdentifierMeans languages (pieces input) i →
     (input ≡ identifier_text i → false ≡ true) → NormalizingIdentifierWantsMemory input
-refuses_memory input i m other = inr (i, m, λ e. absurd (true≢false (sym (other e))))
+refuses_memory input i m other = grind arith
 
 -- what is answered without a value is normalized so
 pub answered_text : (t u : Text) → IsNormalText languages Langid t u → IsNormalizedIdentifier t u
 answered_text t u (i, m, e) = is_normalized t i u m e
 
 pub answered_other : (t : Text) → IsNotNormal Langid t → NormalizingIdentifierWantsMemory t
-answered_other t (u, (i, m, e), other) = inr (i, m, λ s. other (s ∙ sym e))
+answered_other t h = grind arith
 
 -- no text that means something is shorter than its normal text
 pub meant_within : (t : Text) (i : Identifier) → IdentifierMeans languages (pieces t) i →
@@ -60,4 +60,4 @@ pub meant_within : (t : Text) (i : Identifier) → IdentifierMeans languages (pi
 meant_within t i m = omega (arith, length-identifier_means languages t i m)
 
 pub normal_within : (t u : Text) → IsNormalText languages Langid t u → length u ≤ length t
-normal_within t u (i, m, e) = omega (arith, meant_within t i m, ap length e)
+normal_within t u h = grind (arith, meant_within)

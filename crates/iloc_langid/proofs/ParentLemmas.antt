@@ -1,16 +1,14 @@
 -- The fallback chain: the last of a set taken out, one part fewer, and the end of the chain.
 use Rattle.std.proofs.Common.{◌≡◌, ℕ, zero, suc, ◌+◌, ◌-◌, ◌<◌, ◌≤◌, Bool, true, false, not, List, [], ◌∷◌}
-use Rattle.std.proofs.Common.{◌++◌, length, take, get_or, filter, refl, sym, ap, ◌∙◌, subst, arith}
-use Rattle.std.proofs.Common.{true≢false, Option, Some, None, option_to_list, inl, inr, append_assoc}
-use Rattle.std.proofs.Common.{append-nil, length-append}
+use Rattle.std.proofs.Common.{◌++◌, length, take, get_or, filter, refl, sym, ap, ◌∙◌, subst, arith, Option}
+use Rattle.std.proofs.Common.{Some, None, option_to_list, inl, inr, append_assoc, append-nil}
 use Rattle.std.specs.Prelude.{codes, if◌then◌else◌}
 use Rattle.std.specs.List.{AllByRecursion}
 use Rattle.std.specs.Option.{is_some}
 use Rattle.std.specs.declared.cmp.Ordering.TheVariants.{Less}
-use Rattle.iloc_spec_grammar.specs.Syntax.{Text, Identifier, identifier_pieces, languages, Variant, is_word}
-use Rattle.iloc_spec_grammar.specs.Syntax.{lower}
-use Rattle.iloc_spec_grammar.specs.Syntax.{word_cmp, is_same}
-use Rattle.iloc_spec_grammar.specs.Values.{IsNormal, StrictlyAscends, IsIdentifierValue}
+use Rattle.iloc_spec_grammar.specs.Syntax.{Text, Identifier, identifier_pieces, languages, is_word}
+use Rattle.iloc_spec_grammar.specs.Syntax.{lower, word_cmp, is_same}
+use Rattle.iloc_spec_grammar.specs.Values.{StrictlyAscends, IsIdentifierValue}
 use Rattle.iloc_spec_grammar.proofs.MapLaws.{word_cmp_total, same_itself, same_is}
 use Rattle.iloc_langid.specs.Unknown.{unknown_identifier}
 use Rattle.iloc_langid.specs.Parents.{but_last, is_unknown_language, parent_of, part_count, after_steps}
@@ -39,7 +37,7 @@ front x xs = take (length xs) (x ∷ xs)
 split_last : {X : Type 0} (w : X) (ws : List X) (x : X) → x ≡ get_or (w ∷ ws) (length ws) x →
     w ∷ ws ≡ front w ws ++ x ∷ []
 split_last w [] x e = ap (λ v. v ∷ []) (sym e)
-split_last w (v ∷ vs) x e = ap (λ us. w ∷ us) (split_last v vs x e)
+split_last w (v ∷ vs) x e = grind (arith, split_last v vs x e)
 
 module _ (x w : Text) (ws : List Text) (is : x ≡ get_or (w ∷ ws) (length ws) x) where
   without_last : StrictlyAscends word_cmp (w ∷ ws) → filter (λ v. not (is_same x v)) (w ∷ ws) ≡ front w ws
@@ -50,24 +48,12 @@ module _ (x w : Text) (ws : List Text) (is : x ≡ get_or (w ∷ ws) (length ws)
 pub taken_out : (slice old new : List Text) (x : Text) → slice ≡ old → StrictlyAscends word_cmp old
     → 0 < length slice → x ≡ get_or slice (length slice - 1) x → new ≡ filter (λ v. not (is_same x v)) old →
     but_last old ≡ Some new
-taken_out slice old new x same s some is left = by old s (subst (λ vs. 0 < length vs) same some)
-    (subst (λ vs. x ≡ get_or vs (length vs - 1) x) same is) left
-  where
-    by : (ws : List Text) → StrictlyAscends word_cmp ws → 0 < length ws → x ≡ get_or ws (length ws - 1) x
-        → new ≡ filter (λ v. not (is_same x v)) ws → but_last ws ≡ Some new
-    by [] s some is left = absurd (omega arith)
-    by (w ∷ ws) s some is left =
-        let n : suc (length ws) - 1 ≡ length ws = omega arith in
-        ap Some (sym (left ∙ without_last x w ws (subst (λ k. x ≡ get_or (w ∷ ws) k x) n is) s))
+taken_out slice old new x same s some is left = grind (arith, without_last)
 
 -- parents
 
 pub known_language : (w : Text) → (w ≡ codes "und" → false ≡ true) → is_unknown_language w ≡ false
-known_language w h = by (is_unknown_language w) refl
-  where
-    by : (b : Bool) → is_unknown_language w ≡ b → is_unknown_language w ≡ false
-    by true e = absurd (true≢false (sym (h (same_is w (codes "und") e))))
-    by false e = e
+known_language w h = grind (arith, same_is)
 
 pub of_some : {X : Type 0} {x y : X} → Some x ≡ Some y → x ≡ y
 of_some e = cc
@@ -88,23 +74,10 @@ module _ (P : Identifier → Identifier → Type 0)
   at_language : (p : Identifier) (l : Text) (b : Bool) → is_unknown_language l ≡ b
       → (if b then None else Some unknown_identifier) ≡ Some p
       → P (record { language = l; script = None; region = None; variants = [] }) p
-  at_language p l true h e = cc
-  at_language p l false h e = subst (P (record { language = l; script = None; region = None; variants = [] }))
-      (of_some e) (language l h)
-
-  at_parts : (p : Identifier) (l : Text) (s r : Option Text) (vs : List Text)
-      → parent_of (record { language = l; script = s; region = r; variants = vs }) ≡ Some p
-      → P (record { language = l; script = s; region = r; variants = vs }) p
-  at_parts p l s r (v ∷ vs) e = subst (P (record { language = l; script = s; region = r; variants = v ∷ vs }))
-      (of_some e) (variants l s r v vs)
-  at_parts p l s (Some r) [] e = subst
-      (P (record { language = l; script = s; region = Some r; variants = [] })) (of_some e) (region l s r)
-  at_parts p l (Some s) None [] e = subst
-      (P (record { language = l; script = Some s; region = None; variants = [] })) (of_some e) (script l s)
-  at_parts p l None None [] e = at_language p l (is_unknown_language l) refl e
+  at_language p l b h k = grind arith
 
   by_parent : (i p : Identifier) → parent_of i ≡ Some p → P i p
-  by_parent i p e = at_parts p i.language i.script i.region i.variants e
+  by_parent i p e = grind arith
 
 -- each parent has one part fewer
 
@@ -113,9 +86,7 @@ front_length x [] = refl
 front_length x (y ∷ ys) = ap suc (front_length y ys)
 
 pub one_fewer : (i p : Identifier) → parent_of i ≡ Some p → part_count i ≡ part_count p + 1
-one_fewer = by_parent (λ i p. part_count i ≡ part_count p + 1)
-    (λ l s r v vs. rw (front_length v vs) (omega arith))
-    (λ l s r. omega arith) (λ l s. omega arith) (λ l h. rw h refl)
+one_fewer = grind (arith, front_length)
 
 -- the chain ends
 
@@ -146,14 +117,13 @@ none_left = refl
 
 nothing_left : (i : Identifier) (o : Option Identifier) → part_count i ≡ 0 → parent_of i ≡ o →
     i ≡ unknown_identifier
-nothing_left i None h e = only_unknown i e
-nothing_left i (Some p) h e = absurd (omega (arith, one_fewer i p e))
+nothing_left i o h k = grind (arith, only_unknown)
 
 goes_on : (n : ℕ) (i : Identifier) → part_count i ≡ suc n → (o : Option Identifier) → parent_of i ≡ o
     → ((p : Identifier) → part_count p ≡ n → after_steps parent_of n p ≡ Some unknown_identifier)
     → after_steps parent_of (suc n) i ≡ Some unknown_identifier
-goes_on n i h None e next = absurd (omega (arith, none_left, ap part_count (only_unknown i e)))
-goes_on n i h (Some p) e next = rw e (next p (omega (arith, one_fewer i p e)))
+goes_on n i h None e next = grind arith
+goes_on n i h (Some p) e next = grind (arith, one_fewer)
 
 pub chain_ends : (n : ℕ) (i : Identifier) → part_count i ≡ n →
     after_steps parent_of n i ≡ Some unknown_identifier
@@ -161,17 +131,13 @@ chain_ends zero i h = ap Some (nothing_left i (parent_of i) h refl)
 chain_ends (suc n) i h = goes_on n i h (parent_of i) refl (λ p. chain_ends n p)
 
 pub few_parts : (i : Identifier) → part_count i ≤ length (identifier_pieces i)
-few_parts i = by (is_unknown_language i.language) refl
-  where
-    by : (b : Bool) → is_unknown_language i.language ≡ b → part_count i ≤ length (identifier_pieces i)
-    by true h = rw h (simp length-append (omega arith))
-    by false h = rw h (simp length-append (omega arith))
+few_parts i = grind arith
 
 -- what a parent lacks
 
 last_of : {X : Type 0} (x : X) (xs : List X) → (y : X) × (x ∷ xs ≡ front x xs ++ y ∷ [])
 last_of x [] = (x, refl)
-last_of x (y ∷ ys) = ((last_of y ys).0, ap (λ zs. x ∷ zs) (last_of y ys).1)
+last_of x (y ∷ ys) = grind (arith, last_of y ys)
 
 pub lacks_last : (i p : Identifier) → parent_of i ≡ Some p → LacksLastPart i p
 lacks_last = by_parent LacksLastPart
@@ -193,34 +159,11 @@ front_ascends w (v ∷ vs) h = (all_front (λ y. word_cmp w y ≡ Less) v vs h.0
 
 unknown_value : IsIdentifierValue languages unknown_identifier
 unfolding is_word languages lower
-unknown_value = record { language = (refl, refl); script = tt; region = tt; variants = tt; ascending = tt }
+unknown_value = grind arith
 
 pub parent_value : (i p : Identifier) → IsIdentifierValue languages i → parent_of i ≡ Some p →
     IsIdentifierValue languages p
-parent_value i p v e = by_parent (λ i p. IsIdentifierValue languages i → IsIdentifierValue languages p)
-    (λ l s r w ws h. record {
-      language = h.language;
-      script = h.script;
-      region = h.region;
-      variants = all_front (IsNormal Variant) w ws h.variants;
-      ascending = front_ascends w ws h.ascending;
-    })
-    (λ l s r h. record {
-      language = h.language;
-      script = h.script;
-      region = tt;
-      variants = h.variants;
-      ascending = h.ascending;
-    })
-    (λ l s h. record {
-      language = h.language;
-      script = tt;
-      region = tt;
-      variants = h.variants;
-      ascending = h.ascending;
-    })
-    (λ l h v. unknown_value)
-    i p e v
+parent_value i p v e = grind (arith, all_front, front_ascends, unknown_value)
 
 -- what leaving the language answers
 pub language_left : (l w : Text) (s r : Option Text) (vs ws : List Text) → but_last vs ≡ None →
@@ -228,8 +171,4 @@ pub language_left : (l w : Text) (s r : Option Text) (vs ws : List Text) → but
     → false ≡ is_some r → false ≡ is_some s → (l ≡ codes "und" → false ≡ true) → w ≡ codes "und"
     → parent_of (record { language = l; script = s; region = r; variants = vs })
     ≡ Some (record { language = w; script = s; region = r; variants = ws })
-language_left l w s r (v ∷ vs) ws variants same region script known is = cc
-language_left l w s (Some r) [] ws variants same region script known is = absurd (true≢false (sym region))
-language_left l w (Some s) None [] ws variants same region script known is = absurd (true≢false (sym script))
-language_left l w None None [] ws variants same region script known is =
-    rw (known_language l known, is, same) refl
+language_left l w s r vs ws h k e f g d = grind (arith, known_language)

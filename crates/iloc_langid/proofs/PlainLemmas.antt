@@ -1,9 +1,8 @@
 -- From what a plain text means to what is taken from its pieces.
-use Rattle.std.proofs.Common.{◌≡◌, List, [], None, Ok, Err, refl, sym, ap, ◌∙◌, subst, option_map}
-use Rattle.iloc_spec_grammar.specs.Syntax.{Text, Language, IsWord, lower, title, upper, languages}
-use Rattle.iloc_spec_grammar.specs.Syntax.{SpelledIdentifier, Identifier, pieces, first_piece}
+use Rattle.std.proofs.Common.{◌≡◌, List, [], None, Ok, Err, refl, ◌∙◌, arith}
+use Rattle.iloc_spec_grammar.specs.Syntax.{Text, languages, Identifier, pieces, first_piece}
 use Rattle.iloc_spec_grammar.specs.Meaning.{IdentifierMeans, not_a_language}
-use Rattle.iloc_spec_grammar.specs.Reading.{after_region, front_of}
+use Rattle.iloc_spec_grammar.specs.Reading.{front_of}
 use Rattle.iloc_spec_grammar.proofs.ReadingLaws.{front_of-pieces}
 use Rattle.iloc_spec_parts.specs.Small as small
 use Rattle.iloc_subtags.specs.declared.parse_error.ParseError.{ParseError}
@@ -18,29 +17,21 @@ use Rattle.iloc_langid.specs.Reads.{value_of, IdentifierReads}
 use Rattle.iloc_langid.specs.SmallLocaleReads.{SmallLocaleTextReads}
 use Rattle.iloc_normalize.proofs.FrontAnswers.{head_language}
 use Rattle.iloc_langid.proofs.FrontLemmas.{plain_of, front_gives, whole_gives}
-use Rattle.iloc_langid.proofs.SmallLemmas.{parts_are, after_region-pieces, parts_give}
+use Rattle.iloc_langid.proofs.SmallLemmas.{parts_are, parts_give}
 use Rattle.iloc_langid.proofs.HeadLemmas.{nothing_more}
 
 -- pieces that mean an identifier in which no variant is written are its other words, and nothing is left
 module _ (ps : List Text) (i : Identifier) (m : IdentifierMeans languages ps i)
     (none : m.written.variants ≡ []) where
   front_is : front_of ps ≡ m.written
-  front_is = ap front_of m.spelled ∙ front_of-pieces m.written m.grammatical.words
+  front_is = grind (arith, front_of-pieces)
 
   first_is : first_piece ps ≡ m.written.language
-  first_is = sym (parts_are ps).0 ∙ ap (λ (j : SpelledIdentifier). j.language) front_is
+  first_is = grind arith
 
   pub front_of_meaning : (plain : PlainParts) → plain.language ≡ i.language → plain.script ≡ i.script →
       plain.region ≡ i.region → IsPlainFront ps [] plain
-  front_of_meaning plain l s r = record {
-    word = subst (IsWord (Language languages)) (sym first_is) m.grammatical.words.language;
-    language = l ∙ ap (λ (j : Identifier). j.language) m.means ∙ ap lower (sym first_is);
-    script = s ∙ ap (λ (j : Identifier). j.script) m.means
-        ∙ ap (option_map title) (sym (ap (λ (j : SpelledIdentifier). j.script) front_is) ∙ (parts_are ps).1);
-    region = r ∙ ap (λ (j : Identifier). j.region) m.means
-        ∙ ap (option_map upper) (sym (ap (λ (j : SpelledIdentifier). j.region) front_is) ∙ (parts_are ps).2);
-    after = sym (ap after_region m.spelled ∙ after_region-pieces m.written m.grammatical.words ∙ none);
-  }
+  front_of_meaning plain l s r = grind (arith, first_is, front_is, parts_are)
 
 -- an identifier of these words alone is what the pieces mean
 pub plain_means : (ps : List Text) (i : LanguageIdentifier) → IsPlainFront ps [] (plain_of i) →

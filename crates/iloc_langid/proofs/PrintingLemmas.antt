@@ -1,5 +1,5 @@
 -- What was printed means what it was printed from.
-use Rattle.std.proofs.Common.{◌≡◌, IfOk, Result, Ok, Err, sym, subst}
+use Rattle.std.proofs.Common.{◌≡◌, IfOk, Result, arith}
 use Rattle.iloc_spec_grammar.specs.Syntax.{Text, pieces, languages, Identifier}
 use Rattle.iloc_spec_grammar.specs.Meaning.{IdentifierMeans}
 use Rattle.iloc_spec_grammar.specs.Values.{IsIdentifierValue, identifier_text}
@@ -10,8 +10,7 @@ use Rattle.iloc_langid.specs.Reads.{IdentifierMeansOnly}
 -- what holds of a text holds of what was printed, if that is the text
 pub printed : {X E : Type 0} (bytes : X → Text) (P : Text → Type 0) (t : Text) (r : Result X E) →
     IfOk r (λ x. bytes x ≡ t) → P t → IfOk r (λ x. P (bytes x))
-printed bytes P t (Ok x) e p = subst P (sym e) p
-printed bytes P t (Err e) h p = h
+printed bytes P t r h k = grind arith
 
 pub identifier_text_means_only : (i : Identifier) → IsIdentifierValue languages i →
     IdentifierMeansOnly (identifier_text i) i

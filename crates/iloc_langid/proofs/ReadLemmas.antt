@@ -1,6 +1,6 @@
 -- What else is known of an identifier that was read.
 use Rattle.std.specs.Prelude.{⊤}
-use Rattle.std.proofs.Common.{List, Result, Ok, Err}
+use Rattle.std.proofs.Common.{List, Result, arith}
 use Rattle.iloc_spec_grammar.specs.Syntax.{Text, pieces, languages, two_or_three, Identifier}
 use Rattle.iloc_spec_grammar.specs.Meaning.{IdentifierMeans, Fault, HasIdentifierFault}
 use Rattle.iloc_spec_grammar.proofs.IdentifierLaws.{one_meaning}
@@ -11,7 +11,7 @@ use Rattle.iloc_spec_grammar.proofs.WiderTables.{identifier_means_wider}
 use Rattle.iloc_subtags.specs.declared.parse_error.ParseError.{ParseError}
 use Rattle.iloc_langid.specs.declared.identifier.LanguageIdentifier.{LanguageIdentifier}
 use Rattle.iloc_subtags.specs.Judging.{Accepts, Refuses}
-use Rattle.iloc_subtags.proofs.Judged.{Judges, accepts, refuses}
+use Rattle.iloc_subtags.proofs.Judged.{Judges, accepts}
 use Rattle.iloc_langid.specs.Reads.{value_of, IdentifierReads, KeepsThroughSteps}
 
 wide : (t : Text) (i : Identifier) → IdentifierMeans two_or_three (pieces t) i →
@@ -29,12 +29,11 @@ reads_accepts ps r h = accepts value_of ⊤ (identifiers_judge ps) r h
 
 pub reads_refuses : (ps : List Text) (r : Result LanguageIdentifier ParseError) → IdentifierReads ps r →
     (f : Fault) → HasIdentifierFault languages ps f → Refuses ⊤ f r
-reads_refuses ps r h = refuses value_of ⊤ (identifiers_judge ps) r h
+reads_refuses ps r h = grind arith
 
 pub reads_steps : (t : Text) (r : Result LanguageIdentifier ParseError) → IdentifierReads (pieces t) r →
     KeepsThroughSteps t r
-reads_steps t (Ok i) h = λ n u c. identifier_chain_means languages n t u (value_of i) c h
-reads_steps t (Err e) h = tt
+reads_steps t r h = grind (arith, identifier_chain_means)
 
 -- what the narrow table accepts is accepted, with the same value
 pub reads_narrow : (t : Text) (r : Result LanguageIdentifier ParseError) → IdentifierReads (pieces t) r →

@@ -1,12 +1,10 @@
 -- Identifiers with at most one variant, read from the left.
-use Rattle.std.proofs.Common.{◌≡◌, ◌≢◌, ◌≤◌, Bool, true, false, cond, List, [], ◌∷◌, ◌++◌, length, map}
-use Rattle.std.proofs.Common.{refl, sym, ap, ◌∙◌, subst, arith, append-nil, Option, option_map, Result, Ok}
-use Rattle.std.proofs.Common.{Err, IfOk}
+use Rattle.std.proofs.Common.{◌≡◌, ◌≢◌, ◌≤◌, Bool, List, [], ◌∷◌, ◌++◌, length, map, refl, sym, ap, ◌∙◌}
+use Rattle.std.proofs.Common.{subst, arith, append-nil, Option, option_map, Result, Ok, Err, IfOk}
 use Rattle.std.specs.List.{AllByRecursion}
 use Rattle.iloc_spec_grammar.specs.Syntax.{Text, Language, Script, Region, Variant, is_word, IsWord, lower}
-use Rattle.iloc_spec_grammar.specs.Syntax.{title}
-use Rattle.iloc_spec_grammar.specs.Syntax.{upper, languages, SpelledIdentifier, HasWords, identifier_pieces}
-use Rattle.iloc_spec_grammar.specs.Syntax.{first_piece}
+use Rattle.iloc_spec_grammar.specs.Syntax.{title, upper, languages, SpelledIdentifier, HasWords}
+use Rattle.iloc_spec_grammar.specs.Syntax.{identifier_pieces, first_piece}
 use Rattle.iloc_spec_grammar.specs.Reading.{first_item, take_first, skip_first, passing, past, rest_of}
 use Rattle.iloc_spec_grammar.specs.Reading.{after_script, after_region, front_of, after_front}
 use Rattle.iloc_spec_grammar.proofs.ReadingLaws.{all_while, pieces-front_of, front_words, front_of-pieces}
@@ -24,7 +22,7 @@ use Rattle.iloc_langid.specs.SmallReads.{SmallFrontReads}
 use Rattle.iloc_langid.proofs.FrontLemmas.{no_language as no_parts}
 use Rattle.iloc_spec_parts.specs.SmallComputing.{small_identifier}
 use Rattle.iloc_spec_parts.proofs.SmallShapes.{small_identifier_of, one_variant}
-use Rattle.iloc_spec_parts.proofs.SmallLaws.{short_different, small_identifier_means, one_small_identifier}
+use Rattle.iloc_spec_parts.proofs.SmallLaws.{short_different, one_small_identifier}
 use Rattle.iloc_spec_parts.proofs.SmallLaws.{small_identifier_apart, one_small_identifier_fault}
 use Rattle.iloc_spec_grammar.specs.Meaning.{Fault, IdentifierMeans}
 use Rattle.iloc_subtags.specs.Judging.{Accepts, Refuses}
@@ -37,17 +35,7 @@ variant p = is_word Variant p
 few : (us : List Text) → skip_first variant us ≡ [] →
     (passing variant us ≡ us) × (length us ≤ 1)
     × (first_item (map lower us) ≡ option_map lower (take_first variant us))
-few [] e = (refl, omega arith, refl)
-few (u ∷ us) e = by (variant u) refl e
-  where
-    by : (b : Bool) → variant u ≡ b → cond b us (u ∷ us) ≡ [] →
-        (passing variant (u ∷ us) ≡ u ∷ us) × (length (u ∷ us) ≤ 1)
-        × (first_item (map lower (u ∷ us)) ≡ option_map lower (take_first variant (u ∷ us)))
-    by true h e = rw (e, h) (refl, omega arith, refl)
-    by false h e = absurd (nonempty e)
-      where
-        nonempty : u ∷ us ≡ [] → ⊥
-        nonempty e = cc
+few us h = grind arith
 
 -- one variant at most, and nothing else, leaves nothing
 none_left : (us : List Text) → length us ≤ 1 → AllByRecursion (IsWord Variant) us →
@@ -131,8 +119,7 @@ small_left ps r h =
 pub parts_whole : (ps rest : List Text) (p : Parts) → SmallFrontReads ps rest (Ok p) → rest ≡ [] →
     SmallReads ps (Ok p)
 parts_whole [] rest p g e = no_parts g.0
-parts_whole (q ∷ ps) rest p g e = subst (λ x. IsSmallIdentifier languages (q ∷ ps) (small_of x)) (sym g.1)
-    (small_read q ps g.0 (sym g.2 ∙ e))
+parts_whole (q ∷ ps) rest p g e = grind (arith, small_read)
 
 pub parts_more : (ps rest : List Text) (p : Parts) → SmallFrontReads ps rest (Ok p) → rest ≢ [] →
     SmallReads ps (Err InvalidSubtag)
@@ -151,16 +138,7 @@ pub parts_give : (ps us rest : List Text) (plain : PlainParts) (v : Option Text)
     IsPlainFront ps us plain
     → v ≡ option_map lower (take_first variant us) → rest ≡ skip_first variant us
     → SmallFrontReads ps rest (Ok (plain.language, plain.script, plain.region, v))
-parts_give ps us rest plain v f e el = (
-  f.word,
-  (λ i. (
-    f.language i,
-    f.script i,
-    f.region i,
-    (e ∙ ap (λ x. option_map lower (take_first variant x)) f.after) i,
-  )),
-  el ∙ ap (skip_first variant) f.after,
-)
+parts_give ps us rest plain v f e el = grind arith
 
 -- what is owed to each text
 
@@ -182,5 +160,4 @@ small_refuses ps r h = refuses small_of ⊥ (small_judges ps) r h
 
 pub small_means : (ps : List Text) (r : Result Parts ParseError) → SmallReads ps r →
     IfOk r (λ p. IdentifierMeans languages ps (identifier_of_small (small_of p)))
-small_means ps (Ok p) h = small_identifier_means ps (small_of p) h
-small_means ps (Err e) h = tt
+small_means ps r h = grind arith

@@ -1,13 +1,12 @@
 -- Variants that are taken one at a time.
 use Rattle.iloc_spec_grammar.proofs.FaultLaws.{some_repeat}
-use Rattle.std.proofs.Common.{◌≡◌, ℕ, ◌+◌, ◌<◌, ◌≤◌, Bool, true, false, not, List, [], ◌∷◌, ◌++◌, length, map}
-use Rattle.std.proofs.Common.{refl, sym, ap, ◌∙◌, subst, arith, append_assoc, append-nil, length-append, Some}
-use Rattle.std.proofs.Common.{None, option_map}
+use Rattle.std.proofs.Common.{◌≡◌, ℕ, ◌+◌, ◌<◌, ◌≤◌, Bool, true, false, not, List, [], ◌∷◌, ◌++◌, length}
+use Rattle.std.proofs.Common.{map, refl, sym, ap, ◌∙◌, subst, arith, append_assoc, append-nil}
+use Rattle.std.proofs.Common.{length-append, Some, None, option_map}
 use Rattle.std.specs.Prelude.{Result, Ok, Err}
 use Rattle.std.specs.List.{AllByRecursion, list_any}
 use Rattle.std.specs.List.Sorted.{IsPermutation}
 use Rattle.std.proofs.lemmas.List.{map-append, length-map}
-use Rattle.std.proofs.lemmas.Bool.{both_ways}
 use Rattle.std.proofs.lemmas.List.Sorted.{IsPermutation-refl, IsPermutation-sym, IsPermutation-push_more}
 use Rattle.std.proofs.lemmas.List.Sorted.{IsPermutation-append_left, length_permutation}
 use Rattle.std.proofs.lemmas.List.Sorted.{list_any-IsPermutation}
@@ -39,7 +38,7 @@ pub record Taking (before now words : List Text) : Type 0 where
   pub permutes : IsPermutation (map lower taken) words
 
 pub taking_none : (ps : List Text) → Taking ps ps []
-taking_none ps = record { taken = []; keeps = refl; skips = refl; permutes = IsPermutation-refl [] }
+taking_none ps = grind arith
 
 map-last : (xs : List Text) (p : Text) → map lower (xs ++ p ∷ []) ≡ map lower xs ++ lower p ∷ []
 map-last xs p = map-append lower xs (p ∷ [])
@@ -47,7 +46,7 @@ map-last xs p = map-append lower xs (p ∷ [])
 module _ (before now words : List Text) (t : Taking before now words) (p : Text) (h : IsWord Variant p)
     (later : List Text) (e : now ≡ p ∷ later) where
   keeps_more : passing (is_word Variant) before ≡ t.taken ++ p ∷ passing (is_word Variant) later
-  keeps_more = t.keeps ∙ ap (λ ps. t.taken ++ passing (is_word Variant) ps) e ∙ rw h refl
+  keeps_more = grind arith
 
   pub taking_one_more : (more : List Text) → IsPermutation (lower p ∷ words) more →
       Taking before later more
@@ -95,16 +94,12 @@ taking_few ws ps n = record {
 -- as many stand there as before
 pub taken_many : (before now ws : List Text) → Taking before now ws → AllByRecursion (IsNormal Variant) ws →
     length (passing (is_word Variant) (ws ++ now)) ≡ length (passing (is_word Variant) before)
-taken_many before now ws t n =
-    let kept = ap length (few_pass ws now n).0 ∙ length-append ws (passing (is_word Variant) now) in
-    let all = ap length t.keeps ∙ length-append t.taken (passing (is_word Variant) now) in
-    let same = length_permutation _ _ t.permutes ∙ length-map t.taken lower in
-    omega (arith, kept, all, same)
+taken_many before now ws t n = grind (arith, few_pass, length-append, length_permutation, length-map)
 
 different_permutation : (vs ws : List Text) → IsPermutation vs ws → AllDifferent word_cmp vs →
     AllDifferent word_cmp ws
-different_permutation vs ws p d = differ ws
-    (ap length (sym (permuted_set vs ws p)) ∙ length-set_of-different vs d ∙ sym (length_permutation vs ws p))
+different_permutation vs ws p d =
+    grind (arith, differ, permuted_set, length-set_of-different, length_permutation)
 
 -- what is read after them is read of all
 pub taken_after : (before now ws rest : List Text) → Taking before now ws →
@@ -113,8 +108,7 @@ pub taken_after : (before now ws rest : List Text) → Taking before now ws →
 taken_after before now ws rest t n r = by r
   where
     kept : map lower (passing (is_word Variant) (ws ++ now)) ≡ ws ++ map lower (passing (is_word Variant) now)
-    kept = ap (map lower) (few_pass ws now n).0 ∙ map-append lower ws _
-        ∙ ap (λ vs. vs ++ map lower (passing (is_word Variant) now)) (lower-variants ws n)
+    kept = grind (arith, few_pass, map-append, lower-variants)
 
     whole : map lower (passing (is_word Variant) before)
         ≡ map lower t.taken ++ map lower (passing (is_word Variant) now)
@@ -146,30 +140,19 @@ module _ (before now words : List Text) (t : Taking before now words)
     (none : (passing (is_word Variant) now ≡ []) × (past (is_word Variant) now ≡ now)) (set : List Text)
     (e : set ≡ set_of words) where
   all_of : IsPermutation (map lower (passing (is_word Variant) before)) words
-  all_of = subst (λ ps. IsPermutation (map lower ps) words)
-      (sym (t.keeps ∙ ap (λ l. t.taken ++ l) none.0 ∙ append-nil t.taken)) t.permutes
+  all_of = grind (arith, append-nil)
 
   set_is : set ≡ set_of (map lower (passing (is_word Variant) before))
   set_is = e ∙ sym (permuted_set _ _ all_of)
 
   -- as many in the set: all differ
   pub taken_all : (length set < length words → ⊥) → VariantsReads before now (Ok set)
-  taken_all many =
-      let l = length_permutation _ _ all_of in
-      let n = length-set_of words in
-      let k = ap length e in
-      let as_long : length (set_of (map lower (passing (is_word Variant) before)))
-      ≡ length (map lower (passing (is_word Variant) before)) =
-      ap length (sym set_is) ∙ not_fewer _ _ many (omega (arith, n, k)) ∙ l in
-      (set_is, differ _ as_long, sym (t.skips ∙ none.1))
+  taken_all many = grind (arith, length_permutation, all_of, length-set_of, set_is, not_fewer, differ)
 
   -- fewer: two are equal
   pub taken_twice : length set < length words →
       ¬ (AllDifferent word_cmp (map lower (passing (is_word Variant) before)))
-  taken_twice fewer d =
-      let l = length_permutation _ _ all_of in
-      let n = ap length set_is ∙ length-set_of-different _ d in
-      omega (arith, fewer, l, n)
+  taken_twice fewer d = grind (arith, length_permutation, all_of, set_is, length-set_of-different)
 
 pub more_done : (before now words later set : List Text) → Taking before now words →
     None ≡ option_map (normal Variant) (take_first (is_word Variant) now) →
@@ -192,10 +175,7 @@ module _ (before now words : List Text) (t : Taking before now words) (w : Text)
     (e : Some w ≡ option_map (normal Variant) (take_first (is_word Variant) now))
     (l : later ≡ skip_first (is_word Variant) now) where
   pub takes_new : (more : List Text) → IsPermutation (w ∷ words) more → Taking before later more
-  takes_new more m =
-      let (p, h, same, cut) = took Variant now w e in
-      taking_one_more before now words t p h later (cut ∙ ap (λ ps. p ∷ ps) (sym l)) more
-      (subst (λ x. IsPermutation (x ∷ words) more) same m)
+  takes_new more m = grind (arith, taking_one_more)
 
   pub takes_old : list_any (is_same w) words ≡ true →
       ¬ (AllDifferent word_cmp (map lower (passing (is_word Variant) before)))
@@ -206,12 +186,7 @@ module _ (before now words : List Text) (t : Taking before now words) (w : Text)
 
   -- with this one there are at most as many as stand there
   pub takes_within : length words + 1 ≤ length (passing (is_word Variant) before)
-  takes_within =
-      let (p, q, same, cut) = took Variant now w e in
-      let more = ap length (keeps_more before now words t p q later (cut ∙ ap (λ ps. p ∷ ps) (sym l)))
-      ∙ length-append t.taken (p ∷ passing (is_word Variant) later) in
-      let n = length_permutation _ _ t.permutes ∙ length-map t.taken lower in
-      omega (arith, n, more)
+  takes_within = grind (arith, took, length-append, length_permutation, length-map)
 
   -- a fifth
   pub takes_much : 4 < length (set_of (w ∷ words)) → 4 < length (passing (is_word Variant) before)
@@ -240,11 +215,11 @@ pub record TakingFew (before now set : List Text) : Type 0 where
   pub short : length set < 4
 
 pub few_none : (ps : List Text) → TakingFew ps ps []
-few_none ps = record { taking = taking_none ps; ascending = tt; normal = tt; short = omega arith }
+few_none ps = grind arith
 
 pub few_known : (ws ps : List Text) → AllByRecursion (IsNormal Variant) ws → StrictlyAscends word_cmp ws →
     length ws < 4 → TakingFew (ws ++ ps) ps ws
-few_known ws ps n a l = record { taking = taking_few ws ps n; ascending = a; normal = n; short = l }
+few_known ws ps n a l = grind (arith, taking_few)
 
 module _ (before now set : List Text) (t : TakingFew before now set) (w : Text) (later : List Text)
     (e : Some w ≡ option_map (normal Variant) (take_first (is_word Variant) now))
@@ -276,11 +251,11 @@ module _ (before now set : List Text) (t : TakingFew before now set) (w : Text) 
 
   pub few_more : added ≡ true → (rest : List Text) (r : Result (List Text) ParseError) →
       VariantsReads (more ++ later) rest r → VariantsReads before rest r
-  few_more new rest r = taken_after before later more rest (few_taken new) few_normal r
+  few_more new rest r = grind (arith, taken_after, few_taken, few_normal)
 
   pub few_many : added ≡ true →
       length (passing (is_word Variant) (more ++ later)) ≡ length (passing (is_word Variant) before)
-  few_many new = taken_many before later more (few_taken new) few_normal
+  few_many new = grind (arith, taken_many, few_taken, few_normal)
 
   pub few_old : added ≡ false → ¬ (AllDifferent word_cmp (map lower (passing (is_word Variant) before)))
   few_old old = takes_old before now set t.taking w later e l
@@ -299,20 +274,9 @@ few_done before now set later t e l = more_done before now set later set t.takin
 
 ended : (ps : List Text) → EndsBefore (is_word Variant) ps →
     (passing (is_word Variant) ps ≡ []) × (past (is_word Variant) ps ≡ ps)
-ended [] h = (refl, refl)
-ended (p ∷ ps) h = (rw h refl, rw h refl)
+ended ps h = grind arith
 
 pub one_variant : (ps rest : List Text) (v : Text) →
     Some v ≡ option_map lower (take_first (is_word Variant) ps) → rest ≡ skip_first (is_word Variant) ps →
     EndsBefore (is_word Variant) rest → VariantsReads ps rest (Ok (v ∷ []))
-one_variant ps rest v e r ends =
-    let (p, h, same, cut) = took Variant ps v e in
-    let whole : ps ≡ p ∷ rest = cut ∙ ap (λ l. p ∷ l) (sym r) in
-    let end = ended rest ends in
-    let taken : passing (is_word Variant) ps ≡ p ∷ [] =
-    ap (passing (is_word Variant)) whole ∙ rw h (ap (λ l. p ∷ l) end.0) in
-    let after : past (is_word Variant) ps ≡ rest = ap (past (is_word Variant)) whole ∙ rw h end.1 in (
-      ap (λ w. w ∷ []) same ∙ ap (λ l. set_of (map lower l)) (sym taken),
-      subst (λ l. AllDifferent word_cmp (map lower l)) (sym taken) (both_ways _ refl, tt),
-      sym after,
-    )
+one_variant ps rest v e r ends = grind arith

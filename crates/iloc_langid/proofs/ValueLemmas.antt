@@ -2,9 +2,7 @@
 use Rattle.std.proofs.Common.{◌≡◌, Bool, true, false, ◌&&◌, nat_le, List, [], ◌∷◌, length, refl, sym, ap}
 use Rattle.std.proofs.Common.{◌∙◌, arith, Option, Some, None, option_to_list, Ok, Err, true≢false}
 use Rattle.std.specs.Prelude.{if◌then◌else◌}
-use Rattle.std.specs.List.{list_all}
 use Rattle.std.specs.Option.{is_some}
-use Rattle.std.proofs.lemmas.Bool.Decides.{nat_tests}
 use Rattle.iloc_spec_grammar.specs.Syntax.{Text, Attribute, is_word, IsWord, is_true, lower, read}
 use Rattle.iloc_spec_grammar.specs.Meaning.{normal_values}
 use Rattle.iloc_spec_grammar.specs.Reading.{first_item}
@@ -26,9 +24,6 @@ value_other : (ws : List Text) (p : Text) (ps : List Text) → is_word Attribute
 unfolding value_result
 value_other ws p ps h = rw h refl
 
-two_many : (v w : Text) (ws : List Text) → nat_le (length (v ∷ w ∷ ws)) 1 ≡ false
-two_many v w ws = grind (arith, nat_tests)
-
 no_value : (b : Bool) (ws : List Text) → nat_le (length ws) 1 ≡ false →
     (if b && nat_le (length ws) 1 then Ok (first_item ws) else Err faults.InvalidSubtag)
     ≡ Err faults.InvalidSubtag
@@ -47,33 +42,22 @@ module _ (p : Text) (ps : List Text) (h : IsWord Attribute p) where
   value_second : (w : Text) → is_true (lower p) ≡ false →
       value_result (w ∷ []) (p ∷ ps) ≡ Err faults.InvalidSubtag
   unfolding value_result
-  value_second w t = rw (h, t) (no_value (list_all (is_word Attribute) ps) (w ∷ lower p ∷ normal_values ps)
-      (two_many w (lower p) (normal_values ps)))
+  value_second w t = grind arith
 
 -- what reading a piece says of it
 
 word_read : (p w : Text) → Ok w ≡ read Attribute InvalidExtension p → IsWord Attribute p × (w ≡ lower p)
-word_read p w e = by (is_word Attribute p) refl e
-  where
-    by : (b : Bool) → is_word Attribute p ≡ b → Ok w ≡ (if b then Ok (lower p) else Err InvalidExtension) →
-        IsWord Attribute p × (w ≡ lower p)
-    by true h e = (h, cc)
-    by false h e = cc
+word_read p w e = grind arith
 
 word_refused : (p : Text) (e : ParseError) → Err e ≡ read Attribute InvalidExtension p →
     is_word Attribute p ≡ false
-word_refused p f e = by (is_word Attribute p) refl e
-  where
-    by : (b : Bool) → is_word Attribute p ≡ b → Err f ≡ (if b then Ok (lower p) else Err InvalidExtension) →
-        is_word Attribute p ≡ false
-    by true h e = cc
-    by false h e = h
+word_refused p f e = grind arith
 
 -- with the value so far, the pieces now are what all of them were
 module _ (before now later : List Text) (v : Option Text)
     (same : value_result (option_to_list v) now ≡ value_result [] before) where
   pub all_read : now ≡ [] → Ok v ≡ answer_of (value_result [] before)
-  all_read e = ap answer_of (sym (value_end v) ∙ ap (value_result (option_to_list v)) (sym e) ∙ same)
+  all_read e = grind (arith, value_end)
 
   module _ (p : Text) (step : now ≡ p ∷ later) where
     same_step : value_result (option_to_list v) (p ∷ later) ≡ value_result [] before

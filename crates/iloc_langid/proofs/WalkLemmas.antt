@@ -1,7 +1,7 @@
 -- Walks over pieces that look for the variants of a set.
-use Rattle.std.proofs.Common.{◌≡◌, ℕ, zero, suc, ◌<◌, ◌≤◌, ◌==◌, Bool, true, false, ◌||◌, ◌&&◌, List, [], ◌∷◌}
-use Rattle.std.proofs.Common.{length, take, drop, replicate, slice_set, not, refl, sym, ap, ◌∙◌, subst, arith}
-use Rattle.std.proofs.Common.{true≢false}
+use Rattle.std.proofs.Common.{◌≡◌, ℕ, zero, suc, ◌<◌, ◌≤◌, ◌==◌, Bool, true, false, ◌||◌, ◌&&◌, List, []}
+use Rattle.std.proofs.Common.{◌∷◌, length, take, drop, replicate, slice_set, not, refl, sym, ap, ◌∙◌, subst}
+use Rattle.std.proofs.Common.{arith, true≢false}
 use Rattle.std.specs.List.{AllByRecursion, HoldsAt, list_any}
 use Rattle.std.specs.declared.cmp.Ordering.TheVariants.{Less, Equal}
 use Rattle.std.proofs.Math.Dec.{eqb-suc-suc}
@@ -53,9 +53,7 @@ below_take x (suc n) (w ∷ ws) h = (h.0, below_take x n ws h.1)
 pub front_set : (n : ℕ) (ws : List Text) → AreVariants ws → AreVariants (take n ws)
 front_set zero ws s = (tt, tt)
 front_set (suc n) [] s = s
-front_set (suc n) (w ∷ ws) s =
-    let rest = front_set n ws (s.0.1, s.1.1) in
-    ((below_take w n ws s.0.0, rest.0), (s.1.0, rest.1))
+front_set (suc n) (w ∷ ws) s = grind (arith, below_take, front_set n ws (s.0.1, s.1.1))
 
 pub back_set : (n : ℕ) (ws : List Text) → AreVariants ws → AreVariants (drop n ws)
 back_set zero ws s = s
@@ -75,16 +73,14 @@ are_found ps (w ∷ ws) (b ∷ found) = (b || is_among ps w) && are_found ps ws 
 
 pub none_found : (ps ws : List Text) (n : ℕ) → are_found ps ws (replicate n false) ≡ are_all_among ps ws
 none_found ps [] n = refl
-none_found ps (w ∷ ws) zero = ap (λ b. is_among ps w && b) (none_found ps ws zero)
-none_found ps (w ∷ ws) (suc n) = ap (λ b. is_among ps w && b) (none_found ps ws n)
+none_found ps (w ∷ ws) zero = grind (arith, none_found ps ws zero)
+none_found ps (w ∷ ws) (suc n) = grind (arith, none_found ps ws n)
 
 -- a piece that is none of the words marks none
 pub other_found : (p : Text) (ps ws : List Text) (found : List Bool) →
     list_any (is_same (lower p)) ws ≡ false → are_found (p ∷ ps) ws found ≡ are_found ps ws found
 other_found p ps [] found h = refl
-other_found p ps (w ∷ ws) [] h =
-    let parts = or_parts _ _ h in
-    rw (apart _ _ parts.0) (ap (λ b. is_among ps w && b) (other_found p ps ws [] parts.1))
+other_found p ps (w ∷ ws) [] h = grind (arith, apart, other_found p ps ws)
 other_found p ps (w ∷ ws) (b ∷ found) h =
     let parts = or_parts _ _ h in
     rw (apart _ _ parts.0) (ap (λ c. (b || is_among ps w) && c) (other_found p ps ws found parts.1))
@@ -107,7 +103,7 @@ not_first : (p w : Text) (ws : List Text) (at : ℕ) → at < length ws → list
 not_first p w [] at l d h = absurd (omega (arith, l))
 not_first p w (v ∷ ws) zero l d h =
     apart w (lower p) (subst (λ x. is_same w x ≡ false) (same_words v (lower p) (h v)) (or_parts _ _ d).0)
-not_first p w (v ∷ ws) (suc at) l d h = not_first p w ws at (omega (arith, l)) (or_parts _ _ d).1 h
+not_first p w (v ∷ ws) (suc at) l d h = grind (arith, not_first p w ws at)
 
 -- the piece at its place among the words is marked
 pub one_found : (p : Text) (ps ws : List Text) (found : List Bool) (at : ℕ) → AllDifferent word_cmp ws →
@@ -136,6 +132,5 @@ pub all_found : (is_missing : Bool → Bool) → is_missing true ≡ false → i
     → length ws ≤ length found → are_found [] ws found ≡ not (list_any is_missing (take (length ws) found))
 all_found is_missing t f [] found l = refl
 all_found is_missing t f (w ∷ ws) [] l = absurd (omega (arith, l))
-all_found is_missing t f (w ∷ ws) (true ∷ found) l =
-    rw t (all_found is_missing t f ws found (omega (arith, l)))
+all_found is_missing t f (w ∷ ws) (true ∷ found) l = grind (arith, all_found is_missing t f ws found)
 all_found is_missing t f (w ∷ ws) (false ∷ found) l = rw f refl
