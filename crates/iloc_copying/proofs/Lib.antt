@@ -1,3 +1,4 @@
+pub mod Clones
 pub mod Items
 pub mod Results
 pub mod Yielded

@@ -10,7 +10,8 @@
 //! It stands on `iloc_memory`.
 #![tactic(auto)]
 
-ghost use Rattle.std.specs.Prelude.{◌≡◌, ◌≤◌, ℕ, length, IfOk, OnErr};
+ghost use Rattle.std.specs.Prelude.{◌≡◌, ◌≤◌, ◌+◌, ℕ, [], length, IfOk, OnOk, OnErr, vec_capacity};
+ghost use Rattle.std.specs.List.{AllZip};
 ghost use Rattle.std.specs.Iterator.{IsFinite, Drains, size};
 ghost use Rattle.iloc_memory.specs.Refusals.{RefusedWithin};
 ghost use Rattle.iloc_copying.specs.Sizes.{items_in};
@@ -102,11 +103,13 @@ pub fn copies_of<C: Copying, T: Copied>(copying: C, list: &Vec<T>) -> Result<Vec
     Ok(copies)
 }
 
-/// A list of clones, if an item's clone equals the item. Refusal: `AllocError`, also if an item cannot be cloned.
+/// A list of clones. It equals the list if an item's clone equals the item. Refusal: `AllocError`, also if an item cannot be
+/// cloned.
 #[inline(always)]
 pub fn clones_of<T: Clone>(list: &Vec<T>) -> Result<Vec<T>, AllocError>
-    requires { (x y : T) → T.is_clone x y → y ≡ x }
-    ensures { IfOk result (λ copy. copy.items ≡ list.now.items) }
+    ensures clones { IfOk result (λ copy. AllZip T.is_clone list.now.items copy.items) }
+    ensures equal { IfOk result (λ copy. ((x y : T) → T.is_clone x y → y ≡ x)
+        → copy.items ≡ list.now.items) }
 {
     let items = list.as_slice();
     let mut clones = FromOwn.memory_for(list).with_capacity(items.len())?;
@@ -114,6 +117,35 @@ pub fn clones_of<T: Clone>(list: &Vec<T>) -> Result<Vec<T>, AllocError>
         clones.push_reserved(item.clone()?);
     }
     Ok(clones)
+}
+
+/// The items in a list with room for so many more, which leaves none. Refusal: `AllocError`, only if room for so many was
+/// refused, and the items stay.
+#[inline(always)]
+pub fn moved<M: Memory, T: Drop>(
+    memory: M,
+    list: &mut Vec<T>,
+    more: usize,
+) -> Result<Vec<T>, AllocError>
+    ensures items { IfOk result (λ all. all.items ≡ list.old.items) }
+    ensures room { IfOk result (λ all. length list.old.items + more ≤ vec_capacity all) }
+    ensures ok { OnOk result (list.new.items ≡ []) }
+    ensures err { OnErr result (list.new.items ≡ list.old.items) }
+    ensures out_of_memory { OnErr result
+        (RefusedWithin M.refused (length list.old.items + more)) }
+{
+    let mut all = memory.with_capacity(list.len().saturating_add(more))?;
+    let Ok(()) = all.append(list) else {
+        unreachable!();
+    };
+    // This asks for nothing: the room is there, unless the sum above was too great for a number.
+    match memory.reserve(&mut all, more) {
+        Ok(()) => Ok(all),
+        Err(refused) => {
+            *list = all;
+            Err(refused)
+        }
+    }
 }
 
 /// A list of what the iterator gives, with room for so many from the first. Refusal: `AllocError`, only if room for at most

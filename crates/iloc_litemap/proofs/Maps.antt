@@ -1,7 +1,7 @@
 -- Entries put in one by one make the map of them, where the last of equal keys stays; added one by one, where
 -- the first does.
 use Rattle.std.proofs.Common.{◌≡◌, Bool, true, false, true≢false, cond, List, [], ◌∷◌, ◌++◌, reverse}
-use Rattle.std.proofs.Common.{suc, ◌+◌, ◌≤◌, length, arith, Option, Some, None, is_some, refl, sym, ap, ap₂, ◌∙◌, append_assoc, append-nil}
+use Rattle.std.proofs.Common.{suc, ◌+◌, ◌≤◌, length, arith, Option, Some, None, is_some, refl, sym, ap, ap₂, ◌∙◌, append_assoc}
 use Rattle.std.specs.declared.cmp.Ordering.{Ordering}
 use Rattle.std.specs.declared.cmp.Ordering.TheVariants.{Less, Equal, Greater}
 use Rattle.std.specs.Cmp.{IsTotalOrder, Equal-is}
@@ -39,15 +39,6 @@ put_one R k v (e ∷ es) =
 abbrev pub put_all : {K X : Type 0} → (K → K → Ordering) → List (K × X) → List (K × X) → List (K × X)
 put_all R es [] = es
 put_all R es (x ∷ xs) = put_all R (put R x.0 x.1 es) xs
-
--- one pair more, of those that an iterator had left before and has left now
-module _ {P : Type 0} (all new before now whole : List P) (p : P) where
-  pub push_next : new ≡ all ++ p ∷ [] → before ≡ p ∷ now → all ++ before ≡ whole → new ++ now ≡ whole
-  push_next n b h = ap (λ ps. ps ++ now) n
-      ∙ (append_assoc all (p ∷ []) now ∙ (ap (λ ps. all ++ ps) (sym b) ∙ h))
-
-pub push_last : {P : Type 0} (all before whole : List P) → before ≡ [] → all ++ before ≡ whole → all ≡ whole
-push_last all before whole b h = sym (append-nil all) ∙ (ap (λ ps. all ++ ps) (sym b) ∙ h)
 
 module _ {K X : Type 0} (R : K → K → Ordering) where
   pub put_next : (all new before now whole : List (K × X)) (k : K) (v : X) → new ≡ put R k v all

@@ -78,6 +78,14 @@ impl<K: Drop, V: Drop> Store<K, V> for ShortBoxSlice<(K, V)> {
         ShortBoxSlice::from_vec(list)
     }
 
+    fn lm_take_with_room<M: Memory>(
+        &mut self,
+        memory: M,
+        more: usize,
+    ) -> Result<Vec<(K, V)>, AllocError> {
+        self.take_with_room(memory, more)
+    }
+
     fn lm_clone(&self) -> Result<Self, AllocError>
     where
         K: Clone,

@@ -4,7 +4,7 @@ ghost use Rattle.std.specs.Vec.Iter.{into_iter_items};
 ghost use Rattle.iloc_litemap.specs.Calls.{CalledAtKeyValue};
 
 use crate::store::{CopyingStore, GrowingStore, Store};
-use iloc_copying::{Copied, Copying, clones_of, copies_of};
+use iloc_copying::{Copied, Copying, clones_of, copies_of, moved};
 use iloc_memory::{Memory, push};
 use std::alloc::{AllocError, Global};
 use std::vec;
@@ -78,6 +78,14 @@ impl<K: Drop, V: Drop> Store<K, V> for Vec<(K, V)> {
         ensures { result.items ≡ list.items }
     {
         list
+    }
+
+    fn lm_take_with_room<M: Memory>(
+        &mut self,
+        memory: M,
+        more: usize,
+    ) -> Result<Vec<(K, V)>, AllocError> {
+        moved(memory, self, more)
     }
 
     fn lm_clone(&self) -> Result<Self, AllocError>

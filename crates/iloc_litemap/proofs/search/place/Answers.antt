@@ -8,3 +8,7 @@ returns-then-len-le8-clause-place g c = is_place g.met.K.Ord.total c.args.key.no
 pub returns-else-len-le8-clause-place : goal.returns-else-len-le8-clause-place
 returns-else-len-le8-clause-place g c = is_place g.met.K.Ord.total c.args.key.now c.args.probe.now.pairs.now
     c.requires.ascending _ c.place_by_halves.ensures.place
+
+pub returns-then-len-eq1-clause-place : goal.returns-then-len-eq1-clause-place
+returns-then-len-eq1-clause-place g c = is_place g.met.K.Ord.total c.args.key.now c.args.probe.now.pairs.now
+    c.requires.ascending _ c.place_beside_one.ensures.place
