@@ -1,6 +1,6 @@
 //! Lists of numbers that keep four in place, and lists that keep one. Steps say a number as the letter that it stands for.
 use crate::steps::{
-    Step, Stepping, answered, compared, is_done, replaced, say_letter, say_letters,
+    Step, Stepping, Verb, answered, compared, is_done, replaced, say_letter, say_letters,
 };
 use iloc_shortvec::{ShortBoxSlice, ShortWords};
 use std::alloc::{AllocError, Global};
@@ -36,7 +36,7 @@ pub trait List: Default + Ord + Hash + fmt::Debug + Drop + Sized {
     fn grow(
         &mut self,
         alloc: Global,
-        call: &[u8],
+        call: Verb,
         place: usize,
         items: &[u16],
     ) -> Result<(), AllocError>;
@@ -56,11 +56,11 @@ pub trait List: Default + Ord + Hash + fmt::Debug + Drop + Sized {
 macro_rules! made_list {
     ($list:ident, $old:expr, $alloc:expr, $step:expr) => {
         match $step.call {
-            b"vec" => Ok($list::from_vec($step.letters.to_vec($alloc)?)),
-            b"iter" => $list::from_iter($alloc, $step.letters.iter().copied()),
-            b"single" => Ok($list::new_single($step.key)),
-            b"double" => $list::new_double($alloc, $step.key, $step.value),
-            b"new" => Ok($list::new()),
+            Verb::Vec => Ok($list::from_vec($step.letters.to_vec($alloc)?)),
+            Verb::Iter => $list::from_iter($alloc, $step.letters.iter().copied()),
+            Verb::Single => Ok($list::new_single($step.key)),
+            Verb::Double => $list::new_double($alloc, $step.key, $step.value),
+            Verb::New => Ok($list::new()),
             _ => $old.clone(),
         }
     };
@@ -71,11 +71,11 @@ macro_rules! shrunk_list {
         let place = $step.place;
         let is_there = place < $list.len();
         match $step.call {
-            b"remove" if is_there => say_letter(Some($list.remove(place)), $out),
-            b"write" if is_there => $item = $step.value,
-            b"reverse" => $list.as_mut_slice().reverse(),
-            b"clear" => $list.clear(),
-            b"retain" => $list.retain(|item: &u16| {
+            Verb::Remove if is_there => say_letter(Some($list.remove(place)), $out),
+            Verb::Write if is_there => $item = $step.value,
+            Verb::Reverse => $list.as_mut_slice().reverse(),
+            Verb::Clear => $list.clear(),
+            Verb::Retain => $list.retain(|item: &u16| {
                 say_letter(Some(*item), $out);
                 *item > $step.key
             }),
@@ -119,13 +119,13 @@ impl List for ShortWords<u16> {
     fn grow(
         &mut self,
         alloc: Global,
-        call: &[u8],
+        call: Verb,
         place: usize,
         items: &[u16],
     ) -> Result<(), AllocError> {
         match (call, items) {
-            (b"insert", [item]) if place <= self.len() => self.insert(alloc, place, *item),
-            (b"push", [item]) => self.push(alloc, *item),
+            (Verb::Insert, [item]) if place <= self.len() => self.insert(alloc, place, *item),
+            (Verb::Push, [item]) => self.push(alloc, *item),
             _ => self.extend_from_slice(alloc, items),
         }
     }
@@ -151,12 +151,12 @@ impl List for ShortBoxSlice<u16> {
     fn grow(
         &mut self,
         alloc: Global,
-        call: &[u8],
+        call: Verb,
         place: usize,
         items: &[u16],
     ) -> Result<(), AllocError> {
         match (call, items) {
-            (b"insert", [item]) if place <= self.len() => self.insert(alloc, place, *item),
+            (Verb::Insert, [item]) if place <= self.len() => self.insert(alloc, place, *item),
             (_, [item]) => self.push(alloc, *item),
             _ => Ok(()),
         }
@@ -178,7 +178,7 @@ impl List for ShortBoxSlice<u16> {
 /// Pushes the items one by one.
 fn push_all<L: List>(alloc: Global, list: &mut L, items: &[u16]) -> Result<(), AllocError> {
     for item in items {
-        list.grow(alloc, b"push", 0, &[*item])?;
+        list.grow(alloc, Verb::Push, 0, &[*item])?;
     }
     Ok(())
 }
@@ -236,10 +236,10 @@ fn give<L: List>(
 fn grow<L: List>(alloc: Global, list: &mut L, step: &Step<'_>, out: &mut String) -> bool {
     let place = step.place;
     match step.call {
-        b"push" => is_done(list.grow(alloc, b"push", 0, &[step.key]), out),
-        b"extend" => is_done(list.grow(alloc, b"extend", 0, step.letters), out),
+        Verb::Push => is_done(list.grow(alloc, Verb::Push, 0, &[step.key]), out),
+        Verb::Extend => is_done(list.grow(alloc, Verb::Extend, 0, step.letters), out),
         _ if place <= list.lend(0).count => {
-            is_done(list.grow(alloc, b"insert", place, &[step.value]), out)
+            is_done(list.grow(alloc, Verb::Insert, place, &[step.value]), out)
         }
         _ => answered("no step", out),
     }
@@ -271,20 +271,20 @@ impl<L: List> Stepping for Listed<L> {
     fn step(&mut self, alloc: Global, step: &Step<'_>, out: &mut String) -> bool {
         let list = &mut self.0;
         match step.call {
-            b"push" | b"insert" | b"extend" => grow(alloc, list, step, out),
-            b"vec" | b"iter" | b"single" | b"double" | b"new" | b"clone" => {
+            Verb::Push | Verb::Insert | Verb::Extend => grow(alloc, list, step, out),
+            Verb::Vec | Verb::Iter | Verb::Single | Verb::Double | Verb::New | Verb::Clone => {
                 let made = list.made(alloc, step);
                 replaced(list, made, out)
             }
-            b"give" => {
+            Verb::Give => {
                 let copy = list.made(alloc, step);
                 give(copy, list.made(alloc, step), out)
             }
-            b"fresh" => {
+            Verb::Fresh => {
                 let fresh = pushed(alloc, list.lend(0).slice);
                 compared(list, fresh, out)
             }
-            b"tell" => {
+            Verb::Tell => {
                 describe(list, out);
                 true
             }

@@ -1,5 +1,5 @@
 //! Steps on a map of letters, over a `Vec` and over a list that keeps one pair in place.
-use crate::steps::{Step, Stepping, answered, is_done, replaced, say_letter};
+use crate::steps::{Step, Stepping, Verb, answered, is_done, replaced, say_letter};
 use iloc_litemap::{LiteMap, Store};
 use std::alloc::{AllocError, Global};
 use test_page::{hash_of, number, say, truth};
@@ -51,8 +51,8 @@ fn made<S: Store<u16, u16>>(
     step: &Step<'_>,
 ) -> Result<LiteMap<u16, u16, S>, AllocError> {
     match step.call {
-        b"pairs" => LiteMap::from_pairs(alloc, pairs_of(alloc, step.letters)?),
-        b"clone" | b"give" => map.clone(),
+        Verb::Pairs => LiteMap::from_pairs(alloc, pairs_of(alloc, step.letters)?),
+        Verb::Clone | Verb::Give => map.clone(),
         _ => {
             let pairs = map.as_slice().to_vec(alloc)?;
             Ok(LiteMap::from_sorted_store_unchecked(S::lm_from_vec(pairs)))
@@ -67,7 +67,7 @@ fn extend<S: Store<u16, u16>>(
     step: &Step<'_>,
 ) -> Result<(), AllocError> {
     match step.call {
-        b"map" => map.extend_from_map(alloc, map_of(alloc, step.letters)?),
+        Verb::Map => map.extend_from_map(alloc, map_of(alloc, step.letters)?),
         _ => map.extend(alloc, pairs_of(alloc, step.letters)?),
     }
 }
@@ -127,19 +127,19 @@ fn shrink<S: Store<u16, u16>>(
     out: &mut String,
 ) -> bool {
     match step.call {
-        b"get" => say_letter(map.get(&step.key).copied(), out),
-        b"has" => truth(out, map.contains_key(&step.key)),
-        b"write" => match map.get_mut(&step.key) {
+        Verb::Get => say_letter(map.get(&step.key).copied(), out),
+        Verb::Has => truth(out, map.contains_key(&step.key)),
+        Verb::Write => match map.get_mut(&step.key) {
             Some(place) => {
                 *place = step.value;
                 say(out, "written");
             }
             None => say(out, "none"),
         },
-        b"remove" => say_letter(map.remove(&step.key), out),
-        b"clear" => map.clear(),
-        b"tell" => describe(map, out),
-        b"retain" => map.retain(|key: &u16, value: &u16| {
+        Verb::Remove => say_letter(map.remove(&step.key), out),
+        Verb::Clear => map.clear(),
+        Verb::Tell => describe(map, out),
+        Verb::Retain => map.retain(|key: &u16, value: &u16| {
             say_pair(*key, *value, out);
             *key > step.key
         }),
@@ -205,15 +205,15 @@ impl<S: Store<u16, u16>> Stepping for LiteMap<u16, u16, S> {
 
     fn step(&mut self, alloc: Global, step: &Step<'_>, out: &mut String) -> bool {
         match step.call {
-            b"set" => set(alloc, self, step, out),
-            b"try" => add(alloc, self, step, out),
-            b"extend" | b"map" => is_done(extend(alloc, self, step), out),
-            b"pairs" | b"stored" | b"clone" => {
+            Verb::Set => set(alloc, self, step, out),
+            Verb::Try => add(alloc, self, step, out),
+            Verb::Extend | Verb::Map => is_done(extend(alloc, self, step), out),
+            Verb::Pairs | Verb::Stored | Verb::Clone => {
                 let made = made(alloc, self, step);
                 replaced(self, made, out)
             }
-            b"give" => give(made(alloc, self, step), out),
-            b"fresh" => compared(self, made(alloc, self, step), out),
+            Verb::Give => give(made(alloc, self, step), out),
+            Verb::Fresh => compared(self, made(alloc, self, step), out),
             _ => shrink(self, step, out),
         }
     }

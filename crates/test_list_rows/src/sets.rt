@@ -1,5 +1,5 @@
 //! Steps on a set of variants. Several words in one step have slashes between.
-use crate::steps::{Step, Stepping, answered, compared, is_done, replaced};
+use crate::steps::{Step, Stepping, Verb, answered, compared, is_done, replaced};
 use iloc_subtags::Variant;
 use iloc_word_list::{Variants, WordSet, is_strictly_ascending};
 use iloc_writeable::Writeable;
@@ -53,11 +53,11 @@ fn extend(alloc: Global, set: &mut Variants, text: &[u8]) -> Result<(), AllocErr
 }
 
 /// The set that the call makes: with the variants of the text, of just them, or a copy, by `clone` or by a union.
-fn made(alloc: Global, set: &Variants, call: &[u8], text: &[u8]) -> Result<Variants, AllocError> {
+fn made(alloc: Global, set: &Variants, call: Verb, text: &[u8]) -> Result<Variants, AllocError> {
     match call {
-        b"union" => set.union(alloc, &set_of(alloc, text)?),
-        b"vec" => ascending(alloc, text),
-        b"clone" => set.clone(),
+        Verb::Union => set.union(alloc, &set_of(alloc, text)?),
+        Verb::Vec => ascending(alloc, text),
+        Verb::Clone => set.clone(),
         _ => Variants::new().union(alloc, set),
     }
 }
@@ -91,9 +91,9 @@ fn with_word(
     out: &mut String,
 ) -> bool {
     match step.call {
-        b"word" => replaced(set, Ok(WordSet::from_word(word)), out),
-        b"variant" => replaced(set, Ok(Variants::from_variant(word)), out),
-        b"push" => match set.push(alloc, word) {
+        Verb::Word => replaced(set, Ok(WordSet::from_word(word)), out),
+        Verb::Variant => replaced(set, Ok(Variants::from_variant(word)), out),
+        Verb::Push => match set.push(alloc, word) {
             Ok(is_new) => answered(if is_new { "new" } else { "known" }, out),
             Err(_) => false,
         },
@@ -121,24 +121,24 @@ impl Stepping for Variants {
 
     fn step(&mut self, alloc: Global, step: &Step<'_>, out: &mut String) -> bool {
         match step.call {
-            b"push" | b"remove" | b"word" | b"variant" => {
+            Verb::Push | Verb::Remove | Verb::Word | Verb::Variant => {
                 match Variant::try_from_utf8(step.text) {
                     Ok(word) => with_word(alloc, self, step, word, out),
                     Err(_) => answered("no word", out),
                 }
             }
-            b"extend" => is_done(extend(alloc, self, step.text), out),
-            b"union" | b"vec" | b"clone" => {
+            Verb::Extend => is_done(extend(alloc, self, step.text), out),
+            Verb::Union | Verb::Vec | Verb::Clone => {
                 let made = made(alloc, self, step.call, step.text);
                 replaced(self, made, out)
             }
-            b"fresh" => compared(self, made(alloc, self, b"fresh", b""), out),
-            b"clear" => {
+            Verb::Fresh => compared(self, made(alloc, self, Verb::Fresh, b""), out),
+            Verb::Clear => {
                 let old = self.clear();
                 old.state(out);
                 true
             }
-            b"slice" => {
+            Verb::Slice => {
                 for word in self.as_slice() {
                     put(out, word);
                     say(out, " ");

@@ -2,7 +2,7 @@
 use crate::lists::{List, Listed};
 use crate::maps::Long;
 use crate::printing::say_room;
-use crate::steps::{Step, Stepping};
+use crate::steps::{Step, Stepping, Verb, verb_of};
 use iloc_litemap::{LiteMap, Probe, Store, place};
 use iloc_shortvec::{ShortBoxSlice, ShortWords};
 use iloc_word_list::Variants;
@@ -50,7 +50,7 @@ fn word_of(number: u16) -> [u8; 5] {
 fn take_one<V: Stepping>(
     alloc: Global,
     value: &mut V,
-    call: &[u8],
+    call: Verb,
     number: u16,
     answer: &mut String,
 ) -> bool {
@@ -68,7 +68,7 @@ fn take_one<V: Stepping>(
 }
 
 /// Takes a step with each number in turn.
-fn take_each<V: Stepping>(alloc: Global, value: &mut V, call: &[u8], room: &mut Room) -> bool {
+fn take_each<V: Stepping>(alloc: Global, value: &mut V, call: Verb, room: &mut Room) -> bool {
     for number in room.numbers.as_slice() {
         if !take_one(alloc, value, call, *number, &mut room.answer) {
             return false;
@@ -78,7 +78,7 @@ fn take_each<V: Stepping>(alloc: Global, value: &mut V, call: &[u8], room: &mut 
 }
 
 /// Takes a step with all numbers at once, and with their words.
-fn take_all<V: Stepping>(alloc: Global, value: &mut V, call: &[u8], room: &mut Room) -> bool {
+fn take_all<V: Stepping>(alloc: Global, value: &mut V, call: Verb, room: &mut Room) -> bool {
     let step = Step {
         call,
         text: room.words.as_slice(),
@@ -123,19 +123,20 @@ fn spell_words(room: &mut Room) {
 fn fill_list<V: Stepping>(
     alloc: Global,
     list: &mut V,
-    call: &[u8],
+    call: Verb,
     below: u16,
     room: &mut Room,
 ) -> bool {
     count_all(&mut room.numbers, below, 1);
     match call {
-        b"push" | b"extend" => take_each(alloc, list, call, room),
-        b"insert" => {
+        Verb::Push | Verb::Extend => take_each(alloc, list, call, room),
+        Verb::Insert => {
             room.numbers.reverse();
             take_each(alloc, list, call, room)
         }
-        b"extend_once" => take_all(alloc, list, b"extend", room),
-        b"clone" => take_each(alloc, list, b"push", room) && take_all(alloc, list, call, room),
+        Verb::ExtendOnce => take_all(alloc, list, Verb::Extend, room),
+        Verb::Clone => take_each(alloc, list, Verb::Push, room)
+            && take_all(alloc, list, call, room),
         _ => take_all(alloc, list, call, room),
     }
 }
@@ -144,18 +145,18 @@ fn fill_list<V: Stepping>(
 fn fill_map<V: Stepping>(
     alloc: Global,
     map: &mut V,
-    call: &[u8],
+    call: Verb,
     below: u16,
     room: &mut Room,
 ) -> bool {
     count_all(&mut room.numbers, below, 1);
     match call {
-        b"try" => take_each(alloc, map, call, room),
-        b"insert" => {
+        Verb::Try => take_each(alloc, map, call, room),
+        Verb::Insert => {
             room.numbers.reverse();
-            take_each(alloc, map, b"set", room)
+            take_each(alloc, map, Verb::Set, room)
         }
-        b"clone" => take_each(alloc, map, b"set", room) && take_all(alloc, map, call, room),
+        Verb::Clone => take_each(alloc, map, Verb::Set, room) && take_all(alloc, map, call, room),
         _ => {
             count_all(&mut room.numbers, below, 2);
             take_all(alloc, map, call, room)
@@ -167,30 +168,31 @@ fn fill_map<V: Stepping>(
 fn fill_set<V: Stepping>(
     alloc: Global,
     set: &mut V,
-    call: &[u8],
+    call: Verb,
     below: u16,
     room: &mut Room,
 ) -> bool {
     room.numbers.clear();
     match call {
-        b"union" | b"extend" => {
+        Verb::Union | Verb::Extend => {
             count_half(&mut room.numbers, below, 0);
-            let is_done = take_each(alloc, set, b"push", room);
+            let is_done = take_each(alloc, set, Verb::Push, room);
             room.numbers.clear();
             count_half(&mut room.numbers, below, 1);
             spell_words(room);
             is_done && take_all(alloc, set, call, room)
         }
-        b"vec" | b"clone" => {
+        Verb::Vec | Verb::Clone => {
             count_all(&mut room.numbers, below, 1);
             spell_words(room);
-            let is_copied = matches!(call, b"clone");
-            take_all(alloc, set, b"vec", room) && (!is_copied || take_all(alloc, set, call, room))
+            let is_copied = call == Verb::Clone;
+            take_all(alloc, set, Verb::Vec, room)
+                && (!is_copied || take_all(alloc, set, call, room))
         }
         _ => {
             count_half(&mut room.numbers, below, 1);
             count_half(&mut room.numbers, below, 0);
-            take_each(alloc, set, b"push", room)
+            take_each(alloc, set, Verb::Push, room)
         }
     }
 }
@@ -205,7 +207,7 @@ fn say_ends<V: Stepping>(value: &V, is_done: bool, out: &mut String) {
 }
 
 /// Says what a list has that the call fills.
-fn list<L: List>(alloc: Global, call: &[u8], below: u16, room: &mut Room, out: &mut String) {
+fn list<L: List>(alloc: Global, call: Verb, below: u16, room: &mut Room, out: &mut String) {
     let mut list = Listed(L::default());
     let is_done = fill_list(alloc, &mut list, call, below, room);
     say_ends(&list, is_done, out)
@@ -214,7 +216,7 @@ fn list<L: List>(alloc: Global, call: &[u8], below: u16, room: &mut Room, out: &
 /// Says what a map has that the call fills.
 fn map<S: Store<u16, u16>>(
     alloc: Global,
-    call: &[u8],
+    call: Verb,
     below: u16,
     room: &mut Room,
     out: &mut String,
@@ -225,7 +227,7 @@ fn map<S: Store<u16, u16>>(
 }
 
 /// Says what a set has that the call fills.
-fn set(alloc: Global, call: &[u8], below: u16, room: &mut Room, out: &mut String) {
+fn set(alloc: Global, call: Verb, below: u16, room: &mut Room, out: &mut String) {
     let mut set = Variants::new();
     let is_done = fill_set(alloc, &mut set, call, below, room);
     say_ends(&set, is_done, out)
@@ -250,7 +252,7 @@ fn search(map: &Long, below: u16, out: &mut String) {
 /// Says how the numbers are found in a map of them.
 fn searched(alloc: Global, below: u16, room: &mut Room, out: &mut String) {
     let mut map = Long::new(alloc);
-    if fill_map(alloc, &mut map, b"insert", below, room) {
+    if fill_map(alloc, &mut map, Verb::Insert, below, room) {
         search(&map, below, out);
     } else {
         refused(out);
@@ -288,7 +290,7 @@ fn find<S: Store<u16, u16>>(
     let mut map: LiteMap<u16, u16, S> = LiteMap::new(alloc);
     room.numbers.clear();
     count_half(&mut room.numbers, count.saturating_mul(2), 1);
-    if take_each(alloc, &mut map, b"set", room) {
+    if take_each(alloc, &mut map, Verb::Set, room) {
         look(&mut map, key, out);
     } else {
         refused(out);
@@ -298,7 +300,7 @@ fn find<S: Store<u16, u16>>(
 /// Says the length and the room of the set's text, as one that is borrowed nowhere, or against other bytes.
 fn printed(alloc: Global, below: u16, room: &mut Room, bytes: &[u8], out: &mut String) {
     let mut set = Variants::new();
-    if fill_set(alloc, &mut set, b"vec", below, room) {
+    if fill_set(alloc, &mut set, Verb::Vec, below, room) {
         say_room(set.write_to_string(alloc), out);
         say(out, " ");
         say_room(to_string_or_borrow(alloc, &set, bytes), out);
@@ -314,8 +316,8 @@ fn short_of(digits: &[u8]) -> u16 {
 
 /// The answer to a row of many items.
 pub fn answer(kind: &str, call: &Call<'_>, room: &mut Room, out: &mut String) {
-    let (alloc, fill) = (call.alloc, call.second);
-    let below = short_of(call.first);
+    let alloc = call.alloc;
+    let (below, fill) = (short_of(call.first), verb_of(call.second));
     match kind {
         "words" => list::<ShortWords<u16>>(alloc, fill, below, room, out),
         "boxes" => list::<ShortBoxSlice<u16>>(alloc, fill, below, room, out),
@@ -323,8 +325,8 @@ pub fn answer(kind: &str, call: &Call<'_>, room: &mut Room, out: &mut String) {
         "map" => map::<ShortBoxSlice<(u16, u16)>>(alloc, fill, below, room, out),
         "vecmap" => map::<Vec<(u16, u16)>>(alloc, fill, below, room, out),
         "place" => searched(alloc, below, room, out),
-        "find" => find::<ShortBoxSlice<(u16, u16)>>(alloc, below, short_of(fill), room, out),
-        "findvec" => find::<Vec<(u16, u16)>>(alloc, below, short_of(fill), room, out),
-        _ => printed(alloc, below, room, fill, out),
+        "find" => find::<ShortBoxSlice<(u16, u16)>>(alloc, below, short_of(call.second), room, out),
+        "findvec" => find::<Vec<(u16, u16)>>(alloc, below, short_of(call.second), room, out),
+        _ => printed(alloc, below, room, call.second, out),
     }
 }

@@ -2,13 +2,85 @@
 //! In lists and maps a letter stands as its number.
 use std::alloc::{AllocError, Global};
 use std::hash::Hash;
+use std::str;
 use test_page::argument::number_of;
 use test_page::{bytes, hash_of, refused, say};
+
+/// What a step calls: each name stands here once, so that a step is a number wherever it is told from others.
+#[derive(Clone, Copy, PartialEq, Eq)]
+pub enum Verb {
+    Push,
+    Insert,
+    Extend,
+    ExtendOnce,
+    Vec,
+    Iter,
+    Single,
+    Double,
+    New,
+    Clone,
+    Give,
+    Fresh,
+    Tell,
+    Remove,
+    Write,
+    Reverse,
+    Clear,
+    Retain,
+    Pairs,
+    Stored,
+    Map,
+    Get,
+    Has,
+    Set,
+    Try,
+    Union,
+    Word,
+    Variant,
+    Slice,
+    Unknown,
+}
+
+/// The verb of the name.
+pub fn verb_of(name: &[u8]) -> Verb {
+    match str::from_utf8(name).unwrap_or("") {
+        "push" => Verb::Push,
+        "insert" => Verb::Insert,
+        "extend" => Verb::Extend,
+        "extend_once" => Verb::ExtendOnce,
+        "vec" => Verb::Vec,
+        "iter" => Verb::Iter,
+        "single" => Verb::Single,
+        "double" => Verb::Double,
+        "new" => Verb::New,
+        "clone" => Verb::Clone,
+        "give" => Verb::Give,
+        "fresh" => Verb::Fresh,
+        "tell" => Verb::Tell,
+        "remove" => Verb::Remove,
+        "write" => Verb::Write,
+        "reverse" => Verb::Reverse,
+        "clear" => Verb::Clear,
+        "retain" => Verb::Retain,
+        "pairs" => Verb::Pairs,
+        "stored" => Verb::Stored,
+        "map" => Verb::Map,
+        "get" => Verb::Get,
+        "has" => Verb::Has,
+        "set" => Verb::Set,
+        "try" => Verb::Try,
+        "union" => Verb::Union,
+        "word" => Verb::Word,
+        "variant" => Verb::Variant,
+        "slice" => Verb::Slice,
+        _ => Verb::Unknown,
+    }
+}
 
 /// A step: what is called, the text that stands first, its letters, its number, and the first letters of both texts.
 #[derive(Clone, Copy)]
 pub struct Step<'a> {
-    pub call: &'a [u8],
+    pub call: Verb,
     pub text: &'a [u8],
     pub letters: &'a [u16],
     pub place: usize,
@@ -50,7 +122,7 @@ fn take_one<V: Stepping>(
     out: &mut String,
 ) -> bool {
     let mut parts = text.split(|byte: &u8| *byte == b'.');
-    let call = parts.next().unwrap_or(b"");
+    let call = verb_of(parts.next().unwrap_or(b""));
     let text = parts.next().unwrap_or(b"");
     let second = parts.next().unwrap_or(b"");
     spell(text, room);
