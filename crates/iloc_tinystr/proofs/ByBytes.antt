@@ -1,6 +1,6 @@
 -- What operations on a number do to each of its bytes.
 use Rattle.std.proofs.Common.{◌≡◌, ℕ, zero, suc, ◌+◌, ◌*◌, ◌/◌, ◌%◌, ◌^◌, ◌<◌, Bool, true, ◌&&◌, eqb, ltb}
-use Rattle.std.proofs.Common.{get_or, List, [], ◌∷◌, length, map, refl, sym, ◌∙◌, ap, arith, pow-suc}
+use Rattle.std.proofs.Common.{get_or, List, [], ◌∷◌, length, map, refl, ◌∙◌, ap, arith, pow-suc}
 use Rattle.std.proofs.lemmas.List.{map-id}
 use borrow.Author.Tests.{eqb-true, ltb-true}
 use Rattle.std.specs.Cmp.{first_so, second_so}
@@ -43,7 +43,7 @@ same_bytes f g e (suc n) x =
 pub number-bytes : (n x : ℕ) → x < 256 ^ n → number (bytes n x) ≡ x
 unfolding bytes
 number-bytes zero x h = omega arith
-number-bytes (suc n) x h = omega (arith, number-bytes n (x / 256) (omega (arith, pow-suc 256 n)))
+number-bytes (suc n) x h = grind (arith, pow-suc, number-bytes n (x / 256))
 
 pub length_bytes : (n x : ℕ) → length (bytes n x) ≡ n
 unfolding bytes
@@ -73,13 +73,11 @@ pub record Bytewise (x : ℕ) (f : ℕ → ℕ) (y : ℕ) : Type 0 where
   pub made : y ≡ number (map f (bytes 8 x))
 
 pub itself : (x : ℕ) → x < 2 ^ 64 → Bytewise x (λ b. b) x
-itself x small =
-    let e : x < 256 ^ 8 = omega arith in
-    record { keeps = λ b l. l; made = sym (ap number (map-id (bytes 8 x)) ∙ number-bytes 8 x e) }
+itself x small = grind (arith, map-id, number-bytes)
 
 pub constant : (x c : ℕ) → ltb c 256 ≡ true → Bytewise x (λ _. c) (spread c 8)
 unfolding bytes spread
-constant x c e = record { keeps = λ b l. ltb-true c 256 e; made = refl }
+constant x c e = grind arith
 
 -- by a function that is equal at each of the 256 bytes
 pub alike_made : {x y : ℕ} {f : ℕ → ℕ} → Bytewise x f y → (g : ℕ → ℕ) →
@@ -116,10 +114,7 @@ module _ {o : ℕ → ℕ → ℕ} (by : ByBlocks o) where
       ≡ number (map (λ b. o (f b) (g b)) (bytes n x))
   unfolding bytes
   by_byte f g kf kg zero x = by.zeros
-  by_byte f g kf kg (suc n) x =
-      let small : x % 256 < 256 = omega arith in
-      first_byte (f (x % 256)) (g (x % 256)) _ _ (kf _ small) (kg _ small)
-      ∙ ap (λ y. o (f (x % 256)) (g (x % 256)) + 256 * y) (by_byte f g kf kg n (x / 256))
+  by_byte f g kf kg (suc n) x = grind (arith, first_byte, by_byte f g kf kg n (x / 256))
 
   -- of two numbers that go by bytes
   pub of_both : {x a b : ℕ} {f g : ℕ → ℕ} → Bytewise x f a → Bytewise x g b →

@@ -5,14 +5,16 @@ use Rattle.std.specs.Int.{is_in_range}
 use Rattle.std.specs.Int.RustNames.{bit_and, bit_or, bit_xor}
 use Rattle.std.proofs.lemmas.List.{length-map, map-id}
 use Rattle.std.proofs.lemmas.Nat.{and_le_r, xor_comm}
-use Rattle.std.specs.Char.{is_ascii_alphabetic, is_ascii_alphanumeric, to_ascii_lowercase, to_ascii_uppercase}
+use Rattle.std.specs.Char.{is_ascii_alphabetic, is_ascii_alphanumeric, to_ascii_lowercase}
+use Rattle.std.specs.Char.{to_ascii_uppercase}
 use Rattle.std.specs.List.{list_all}
 use Rattle.std.specs.Cmp.{first_so, second_so}
 use Rattle.std.proofs.lemmas.Bool.Decides.{nat_tests}
 use Rattle.iloc_tinystr.specs.Number.{number, bytes, flag, flags, spread, IsPacked}
 use Rattle.iloc_tinystr.proofs.Titles.{title, length-title}
-use Rattle.iloc_tinystr.proofs.ByBytes.{number-bytes, length_bytes, kept, alike, same_bytes, Keeps, Bytewise}
-use Rattle.iloc_tinystr.proofs.ByBytes.{itself, alike_made, ands, ors, xors, first_byte, by_byte, of_both}
+use Rattle.iloc_tinystr.proofs.ByBytes.{number-bytes, length_bytes, kept, alike, same_bytes, Keeps}
+use Rattle.iloc_tinystr.proofs.ByBytes.{Bytewise, itself, alike_made, ands, ors, xors, first_byte, by_byte}
+use Rattle.iloc_tinystr.proofs.ByBytes.{of_both}
 use Rattle.iloc_tinystr.proofs.Low.{flag-keeps, turned_flags}
 use Rattle.iloc_tinystr.proofs.Packed.{below, word-lt, wider, Makes, makes, changed, fit-map}
 
@@ -28,31 +30,23 @@ quarter : (p : ℕ → Bool) (n x : ℕ)
     → number (map (flag p) (bytes n x)) ≡ 4 * number (map (case_bit p) (bytes n x))
 unfolding bytes
 quarter p zero x = refl
-quarter p (suc n) x = omega (arith, fourth (p (x % 256)), quarter p n (x / 256))
+quarter p (suc n) x = grind (arith, fourth, quarter p n (x / 256))
 
 case-keeps : (p : ℕ → Bool) → Keeps (case_bit p)
 case-keeps p b l = omega (arith, flag-keeps p b)
 
 case_bits : (p : ℕ → Bool) (x f : ℕ) → f ≡ flags p x → Bytewise x (case_bit p) (f / 4)
 unfolding flags
-case_bits p x f e = record { keeps = case-keeps p; made = omega (arith, e, quarter p 8 x) }
+case_bits p x f e = grind (arith, case-keeps, quarter)
 
 -- of a title
 fit-title : (n x k : ℕ) → get_or (title (bytes n x)) k 0 < 256
 unfolding bytes
-fit-title zero x k = omega arith
-fit-title (suc n) x zero = kept to_ascii_uppercase refl (x % 256) (omega arith)
-fit-title (suc n) x (suc k) = fit-map to_ascii_lowercase (kept to_ascii_lowercase refl) n (x / 256) k
+fit-title n x k = grind (arith, kept, fit-map)
 
 title_wide : (n x : ℕ) → n ≤ 8 → x < 256 ^ n → number (title (bytes 8 x)) ≡ number (title (bytes n x))
 unfolding bytes
-title_wide zero x few lt =
-    let low : x % 256 ≡ 0 = omega arith in
-    omega (
-      arith,
-      ap to_ascii_uppercase low,
-      wider to_ascii_lowercase refl 0 7 (x / 256) (omega arith) (omega arith),
-    )
+title_wide zero x few lt = grind (arith, wider)
 title_wide (suc n) x few lt =
     ap (λ y. to_ascii_uppercase (x % 256) + 256 * y)
     (wider to_ascii_lowercase refl n 7 (x / 256) (omega arith) (omega (arith, pow-suc 256 n)))
@@ -142,7 +136,7 @@ quarter_spread (suc n) = omega (arith, quarter_spread n)
 word_number : (n x : ℕ) → x < 256 ^ n → list_all is_ascii_alphanumeric (bytes n x) ≡ true
     → bit_or x (spread 32 n) ≡ number (map to_ascii_lowercase (bytes n x))
 unfolding bytes spread
-word_number zero x lt all = let none : x ≡ 0 = omega arith in ap (λ y. bit_or y 0) none
+word_number zero x lt all = grind arith
 word_number (suc n) x lt all =
     let whole : x ≡ x % 256 + 256 * (x / 256) = omega arith in
     ap (λ y. bit_or y (32 + 256 * spread 32 n)) whole

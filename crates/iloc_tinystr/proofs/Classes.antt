@@ -1,9 +1,8 @@
 -- Each byte is flagged that is a letter or a digit, and all are where the test holds of each.
-use Rattle.std.proofs.Common.{◌≡◌, ℕ, zero, suc, ◌+◌, ◌-◌, ◌*◌, ◌/◌, ◌%◌, ◌^◌, ◌<◌, ◌≤◌, Bool, true, false}
+use Rattle.std.proofs.Common.{◌≡◌, ℕ, zero, suc, ◌+◌, ◌-◌, ◌*◌, ◌/◌, ◌^◌, ◌<◌, ◌≤◌, Bool, true, false}
 use Rattle.std.proofs.Common.{◌&&◌, cond, eqb, map, refl, ◌∙◌, ap, arith}
 use borrow.Author.Tests.{eqb-true}
 use Rattle.std.specs.Int.RustNames.{bit_and, bit_xor}
-use Rattle.std.proofs.lemmas.Bool.Decides.{nat_tests}
 use Rattle.std.specs.List.{list_all}
 use Rattle.std.specs.Char.{is_ascii_alphabetic, is_ascii_digit}
 use Rattle.std.specs.Int.{is_in_range}
@@ -47,18 +46,15 @@ high_bits_are n few =
 
 pub marks_step : (t all : Bool) (a b : ℕ) → eqb a b ≡ all
     → eqb (cond t 128 0 + 256 * a) (128 + 256 * b) ≡ (t && all)
-marks_step true all a b e = grind (arith, nat_tests)
-marks_step false all a b e = grind (arith, nat_tests)
+marks_step t all a b h = grind arith
 
 pub marks : (p : ℕ → Bool) (n x : ℕ)
     → eqb (number (map (flag p) (bytes n x))) (spread 128 n) ≡ list_all p (bytes n x)
 unfolding bytes spread
 marks p zero x = refl
-marks p (suc n) x = marks_step (p (x % 256)) _ _ _ (marks p n (x / 256))
+marks p (suc n) x = grind (arith, marks_step, marks p n (x / 256))
 
 pub all_are : (p : ℕ → Bool) → p 0 ≡ false → (n x : ℕ) → IsPacked n x →
     eqb (flags p x) (spread 128 n) ≡ list_all p (bytes n x)
 unfolding flags
-all_are p none n x h =
-    ap (λ y. eqb y (spread 128 n)) (wider (flag p) (ap (λ t. cond t 128 0) none) n 8 x h.few (below n x h))
-    ∙ marks p n x
+all_are p none n x h = grind (arith, wider, below, marks)

@@ -1,5 +1,5 @@
 -- Eight bytes below 128 that are computed lane by lane.
-use Rattle.std.proofs.Common.{◌≡◌, ℕ, zero, suc, ◌+◌, ◌-◌, ◌*◌, ◌<◌, Bool, true, false, ◌==◌, ◌&&◌, cond}
+use Rattle.std.proofs.Common.{◌≡◌, ℕ, zero, suc, ◌+◌, ◌-◌, ◌*◌, ◌<◌, Bool, true, ◌==◌, ◌&&◌, cond}
 use Rattle.std.proofs.Common.{◌||◌, List, [], ◌∷◌, ◌++◌, length, map, take, refl, sym, ap, ◌∙◌, arith}
 use Rattle.std.proofs.Common.{nat_lt, nat_eq}
 use Rattle.std.proofs.lemmas.Bool.{agree_below, agree_below_at}
@@ -29,7 +29,7 @@ abbrev pub Low : List ℕ → Type 0
 Low v = list_all (λ b. nat_lt b 128) v ≡ true
 
 first_low : (b : ℕ) (v : List ℕ) → Low (b ∷ v) → (b < 128) × Low v
-first_low b v low = (grind (arith, nat_tests), grind (arith, nat_tests))
+first_low b v low = grind arith
 
 -- such a byte is the same number with a sign
 pub sign_free : (v : List ℕ) → Low v → Each1 (λ b. SFits w8 (pos b)) v
@@ -102,7 +102,7 @@ none_left (b ∷ v) low =
 lefts : (q : ℕ → ℕ) (v : List ℕ) →
     sel_l (map (top 7) (map q v)) (replicate (length v) 0) v ≡ map (λ b. cond (top 7 (q b)) 0 b) v
 lefts q [] = refl
-lefts q (b ∷ v) = ap (λ w. cond (top 7 (q b)) 0 b ∷ w) (lefts q v)
+lefts q (b ∷ v) = grind (arith, lefts q v)
 
 pub alphanumerics : (v : List ℕ) → length v ≡ 8 → Low v → (x : ℕ) → x ≡ from_le_bytes w64
     (sel_l (map (top 7) (zip2 or
@@ -131,25 +131,19 @@ low_append [] w low more = more
 low_append (b ∷ v) w low more = let s = first_low b v low in cons_low b (v ++ w) s.0 (low_append v w s.1 more)
 
 text_step : (b : ℕ) (rest : Bool) → (is_text_byte b && rest) ≡ true → (b < 128) × (rest ≡ true)
-text_step b true h = (grind (arith, nat_tests), refl)
-text_step b false h = absurd (grind (arith, nat_tests))
+text_step b rest h = grind arith
 
 low_text : (text : List ℕ) → list_all is_text_byte text ≡ true → Low text
 low_text [] all = refl
 low_text (b ∷ text) all = let s = text_step b _ all in cons_low b text s.0 (low_text text s.1)
 
 pub low_widened : (n : ℕ) (raw all : List ℕ) → IsRaw n raw → all ≡ raw ++ replicate (8 - n) 0 → Low all
-low_widened n raw all h e =
-    let text = low_append (text_of raw) (replicate (n - length (text_of raw)) 0)
-    (low_text (text_of raw) (bytes-tiny n (text_of raw) h.tiny)) (low_zeros (n - length (text_of raw))) in
-    rw e (low_append raw _ (rw h.padded at text) (low_zeros (8 - n)))
+low_widened n raw all h e = grind (arith, low_append, replicate, low_text, bytes-tiny, low_zeros)
 
 pub cut : (f : ℕ → ℕ) (n : ℕ) (raw all done new : List ℕ) → length raw ≡ n
     → all ≡ raw ++ replicate (8 - n) 0 → done ≡ map f all → new ≡ take n done → new ≡ map f raw
 cut f n raw all done new long widened is taken =
-    taken ∙ ap (take n) (is ∙ ap (map f) widened ∙ map-append f raw (replicate (8 - n) 0))
-    ∙ ap (λ k. take k (map f raw ++ map f (replicate (8 - n) 0))) (sym (length-map raw f ∙ long))
-    ∙ take-append_seam (map f raw) (map f (replicate (8 - n) 0))
+    grind (arith, map-append, replicate, length-map, take-append_seam)
 
 -- zeros after them change nothing
 pass_zeros : (k : ℕ) → list_all passes (replicate k 0) ≡ true
@@ -158,11 +152,10 @@ pass_zeros (suc k) = pass_zeros k
 
 with_zeros : (v : List ℕ) (k : ℕ) → list_all passes (v ++ replicate k 0) ≡ list_all passes v
 with_zeros [] k = pass_zeros k
-with_zeros (b ∷ v) k = ap (λ t. passes b && t) (with_zeros v k)
+with_zeros (b ∷ v) k = grind (arith, with_zeros v k)
 
 byte_passes : (b : ℕ) (rest : Bool) → (is_text_byte b && rest) ≡ true → passes b ≡ is_ascii_alphanumeric b
-byte_passes b true h = grind (arith, nat_tests)
-byte_passes b false h = absurd (grind (arith, nat_tests))
+byte_passes b rest h = grind arith
 
 text_passes : (text : List ℕ) → list_all is_text_byte text ≡ true →
     list_all passes text ≡ list_all is_ascii_alphanumeric text
@@ -172,7 +165,4 @@ text_passes (b ∷ text) all =
 
 pub widened_passes : (n : ℕ) (raw all text : List ℕ) → IsRaw n raw → text_of raw ≡ text
     → all ≡ raw ++ replicate (8 - n) 0 → list_all passes all ≡ list_all is_ascii_alphanumeric text
-widened_passes n raw all text h is e =
-    ap (list_all passes) e ∙ with_zeros raw (8 - n) ∙ ap (list_all passes) (sym h.padded)
-    ∙ with_zeros (text_of raw) (n - length (text_of raw))
-    ∙ text_passes (text_of raw) (bytes-tiny n (text_of raw) h.tiny) ∙ ap (list_all is_ascii_alphanumeric) is
+widened_passes n raw all text h is e = grind (arith, with_zeros, text_passes, bytes-tiny)

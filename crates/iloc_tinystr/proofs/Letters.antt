@@ -57,10 +57,7 @@ same false t = not t
 
 same-true : (s t : Bool) → same s t ≡ true → s ≡ t
 unfolding same
-same-true true true e = refl
-same-true true false e = sym e
-same-true false true e = e
-same-true false false e = refl
+same-true s t h = grind arith
 
 flagged : ℕ → Bool
 flagged b = eqb (flag is_ascii_alphabetic b) (flag is_text_byte b)
@@ -88,4 +85,4 @@ pub letters_are : (x : ℕ) → x < 2 ^ 64 → IsLow x → eqb (bit_and (bit_and
     (bit_or x 11574427654092267680)) (x + 4991471925827290437)) 16204198715729174752) 0
     ≡ eqb (flags is_ascii_alphabetic x) (flags is_text_byte x)
 unfolding flags
-letters_are x small low = ap (λ y. eqb y 0) (shares x small low).made ∙ letters 8 x low
+letters_are x small low = grind (arith, shares, letters)

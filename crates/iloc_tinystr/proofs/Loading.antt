@@ -4,7 +4,6 @@ use Rattle.std.proofs.Common.{[], ◌∷◌, length, refl, ◌∙◌, ap, arith,
 use Rattle.std.specs.Int.Count.{count_leading_zeros}
 use Rattle.std.specs.Int.Bits.{or_self, or_zero_l, or_zero_r}
 use Rattle.std.proofs.lemmas.Nat.{leading_length, pow-add, pow_pos, or_block}
-use Rattle.std.proofs.lemmas.Bool.Decides.{nat_tests}
 use Rattle.std.specs.List.{list_all}
 use Rattle.iloc_tinystr.specs.Number.{number, bytes, IsPacked}
 use Rattle.iloc_tinystr.specs.TinyText.{is_text_byte}
@@ -73,7 +72,7 @@ narrow xs low h le few p = absurd (omega arith)
 
 pub first-text : (b : ℕ) (text : List ℕ) → list_all is_text_byte (b ∷ text) ≡ true →
     (0 < b) × (b < 128) × (list_all is_text_byte text ≡ true)
-first-text b text h = (grind (arith, nat_tests), grind (arith, nat_tests), grind (arith, nat_tests))
+first-text b text h = grind arith
 
 pub fit-text : (text : List ℕ) → list_all is_text_byte text ≡ true → (i : ℕ) → get_or text i 0 < 256
 fit-text [] h i = omega arith

@@ -1,5 +1,5 @@
 -- Numbers of bytes below 128, of which a sum carries nothing from byte to byte.
-use Rattle.std.proofs.Common.{◌≡◌, ℕ, zero, suc, ◌+◌, ◌-◌, ◌*◌, ◌/◌, ◌%◌, ◌^◌, ◌<◌, ◌≤◌, Bool, true, false}
+use Rattle.std.proofs.Common.{◌≡◌, ℕ, zero, suc, ◌+◌, ◌-◌, ◌*◌, ◌/◌, ◌%◌, ◌^◌, ◌<◌, ◌≤◌, Bool, true}
 use Rattle.std.proofs.Common.{◌&&◌, not, cond, eqb, ltb, nat_le, get_or, List, [], ◌∷◌, length, map, refl}
 use Rattle.std.proofs.Common.{sym, ◌∙◌, ap, subst, arith}
 use borrow.Author.Tests.{ltb-true}
@@ -12,8 +12,8 @@ use Rattle.std.specs.Int.RustNames.{bit_and, bit_or, bit_xor}
 use Rattle.iloc_tinystr.specs.Number.{number, bytes, flag, flags, spread, IsLow}
 use Rattle.iloc_tinystr.specs.TinyText.{is_text_byte}
 use Rattle.iloc_tinystr.proofs.ByBytes.{each_below, tried, alike, same_bytes, number-bytes, length_bytes}
-use Rattle.iloc_tinystr.proofs.ByBytes.{fit-bytes, bytes-number, Bytewise, itself, constant, alike_made, ands}
-use Rattle.iloc_tinystr.proofs.ByBytes.{ors, xors, first_byte, by_byte, of_both}
+use Rattle.iloc_tinystr.proofs.ByBytes.{fit-bytes, bytes-number, Bytewise, itself, constant, alike_made}
+use Rattle.iloc_tinystr.proofs.ByBytes.{ands, ors, xors, first_byte, by_byte, of_both}
 use Rattle.iloc_tinystr.proofs.Packed.{fit-map}
 
 -- each byte is below c
@@ -52,7 +52,7 @@ module _ (c : ℕ) (few : c ≤ 128) where
       → bit_and (number (bytes n x) + (128 - c) * spread 1 n) (spread 128 n)
       ≡ number (map (flag (nat_le c)) (bytes n x))
   unfolding bytes spread
-  marks zero x low = omega (arith, and_le_r (0 + (128 - c) * 0) 0)
+  marks zero x low = grind (arith, and_le_r)
   marks (suc n) x low =
       let b = x % 256 in
       let d = 128 - c in
@@ -77,24 +77,15 @@ marks_are c x few small low =
 -- ---- and those between two
 
 pub flag-keeps : (p : ℕ → Bool) (b : ℕ) → flag p b < 256
-flag-keeps p b = by (p b)
-  where
-    by : (t : Bool) → cond t 128 0 < 256
-    by true = omega arith
-    by false = omega arith
+flag-keeps p b = grind arith
 
 apart : (p q r : Bool) → (q ≡ true → p ≡ true) → r ≡ (p && not q)
     → bit_xor (cond p 128 0) (cond q 128 0) ≡ cond r 128 0
-apart true true r i e = rw e refl
-apart true false r i e = rw e refl
-apart false true r i e = let h = i refl in cc
-apart false false r i e = rw e refl
+apart p q r h k = grind arith
 
 flag_apart : (a b z : ℕ) → a ≤ b
     → bit_xor (flag (nat_le a) z) (flag (nat_le (b + 1)) z) ≡ flag (is_in_range a b) z
-flag_apart a b z le =
-    apart (nat_le a z) (nat_le (b + 1) z) (is_in_range a b z) (λ h. grind (arith, nat_tests))
-    (grind (arith, nat_tests))
+flag_apart a b z le = grind (arith, apart)
 
 pub between_are : (a b x : ℕ) → a ≤ b
     → bit_xor (flags (nat_le a) x) (flags (nat_le (b + 1)) x) ≡ flags (is_in_range a b) x
@@ -113,15 +104,12 @@ bytes_of {x} {y} {f} b =
 
 twice : (g f : ℕ → ℕ) (xs : List ℕ) → number (map g (map f xs)) ≡ number (map (λ b. g (f b)) xs)
 twice g f [] = refl
-twice g f (x ∷ xs) = ap (λ y. g (f x) + 256 * y) (twice g f xs)
+twice g f (x ∷ xs) = grind (arith, twice g f xs)
 
 pub flags_of : {x y : ℕ} {f : ℕ → ℕ} → Bytewise x f y → (p : ℕ → Bool)
     → Bytewise x (λ b. flag p (f b)) (flags p y)
 unfolding flags
-flags_of {x} {y} {f} b p = record {
-  keeps = λ c l. flag-keeps p (f c);
-  made = ap (λ ys. number (map (flag p) ys)) (bytes_of b) ∙ twice (flag p) f (bytes 8 x);
-}
+flags_of h p = grind (arith, flag-keeps, bytes_of, twice)
 
 below-map : (f : ℕ → ℕ) (c : ℕ) → ((b : ℕ) → b < c → f b < 128) → (n x : ℕ) → Below c n x → (k : ℕ)
     → get_or (map f (bytes n x)) k 0 < 128

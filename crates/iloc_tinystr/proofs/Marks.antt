@@ -1,12 +1,10 @@
 -- A tiny text is marked where its number is not zero: a test holds of all bytes where it marks the same ones.
 use Rattle.std.proofs.Common.{◌≡◌, ℕ, zero, suc, ◌+◌, ◌*◌, ◌/◌, ◌%◌, ◌^◌, ◌<◌, ◌≤◌, Bool, true, false, ◌&&◌}
-use Rattle.std.proofs.Common.{not, cond, eqb, List, length, map, refl, sym, ◌∙◌, ap, subst, arith, pow-suc}
+use Rattle.std.proofs.Common.{not, cond, eqb, List, length, map, refl, ◌∙◌, ap, arith, pow-suc}
 use borrow.Author.Tests.{eqb-true}
-use Rattle.std.proofs.lemmas.Bool.Decides.{nat_tests}
 use Rattle.std.proofs.lemmas.Nat.{ones_cat}
 use Rattle.std.specs.List.{list_all}
-use Rattle.std.specs.Char.{is_ascii_alphabetic, is_ascii_digit, is_ascii_lowercase}
-use Rattle.std.specs.Char.{is_ascii_uppercase}
+use Rattle.std.specs.Char.{is_ascii_alphabetic, is_ascii_digit, is_ascii_lowercase, is_ascii_uppercase}
 use Rattle.std.specs.Int.{is_in_range}
 use Rattle.std.specs.Int.RustNames.{bit_xor, count_ones}
 use Rattle.iloc_tinystr.specs.Number.{number, bytes, flag, flags, spread, IsPacked}
@@ -21,14 +19,13 @@ use Rattle.iloc_tinystr.proofs.TinyTextLemmas.{bytes-tiny, length-le-tiny, tiny_
 
 -- the number of no marks
 none_step : (t all : Bool) (a : ℕ) → eqb a 0 ≡ all → eqb (cond t 128 0 + 256 * a) 0 ≡ (not t && all)
-none_step true all a e = grind (arith, nat_tests)
-none_step false all a e = grind (arith, nat_tests)
+none_step t all a h = grind arith
 
 no_marks : (p : ℕ → Bool) (n x : ℕ)
     → eqb (number (map (flag p) (bytes n x))) 0 ≡ list_all (λ b. not (p b)) (bytes n x)
 unfolding bytes
 no_marks p zero x = refl
-no_marks p (suc n) x = none_step (p (x % 256)) _ _ (no_marks p n (x / 256))
+no_marks p (suc n) x = grind (arith, none_step, no_marks p n (x / 256))
 
 ones_spread : (n : ℕ) → count_ones (spread 128 n) ≡ n
 unfolding spread count_ones
@@ -41,7 +38,7 @@ ones_spread (suc n) =
 title_marks : (n x : ℕ) → IsPacked n x
     → eqb (flags (is_in_range 97 122) (bit_xor x 32)) (spread 128 n) ≡ is_title_letters (bytes n x)
 unfolding flags bytes spread
-title_marks zero x h = ap (λ y. eqb (flags (is_in_range 97 122) (bit_xor y 32)) 0) (sym h.whole)
+title_marks zero x h = grind arith
 title_marks (suc n) x h =
     let lt : x / 256 < 256 ^ n = omega (arith, below (suc n) x h, pow-suc 256 n) in
     let few : n ≤ 7 = omega (arith, h.few) in
@@ -60,16 +57,16 @@ module _ (n : ℕ) (text : List ℕ) (x : ℕ) (few : n ≤ 8) (tiny : is_tiny_t
   packed = piece_word text x (fit-text text (bytes-tiny n text tiny)) short is
 
   pub shows : bytes (length text) x ≡ text
-  shows = piece_shows text x (fit-text text (bytes-tiny n text tiny)) short is
+  shows = grind (arith, piece_shows, fit-text, bytes-tiny, short)
 
   marked : (p : ℕ → Bool) → p 0 ≡ false → eqb (flags p x) (spread 128 (length text)) ≡ list_all p text
-  marked p none = all_are p none (length text) x packed ∙ ap (list_all p) shows
+  marked p none = grind (arith, all_are, packed, shows)
 
   all_marked : flags is_text_byte x ≡ spread 128 (length text)
   all_marked = eqb-true _ _ (marked is_text_byte refl ∙ bytes-tiny n text tiny)
 
   with_all : (p : ℕ → Bool) → p 0 ≡ false → eqb (flags p x) (flags is_text_byte x) ≡ list_all p text
-  with_all p none = ap (eqb (flags p x)) all_marked ∙ marked p none
+  with_all p none = grind (arith, all_marked, marked)
 
   pub letters_marked : eqb (flags is_ascii_alphabetic x) (flags is_text_byte x)
       ≡ list_all is_ascii_alphabetic text
@@ -88,21 +85,17 @@ module _ (n : ℕ) (text : List ℕ) (x : ℕ) (few : n ≤ 8) (tiny : is_tiny_t
 
   pub no_upper_marked : eqb (flags (is_in_range 65 90) x) 0 ≡ list_all (λ b. not (is_ascii_uppercase b)) text
   unfolding flags
-  no_upper_marked =
-      ap (λ y. eqb y 0) (wider (flag is_ascii_uppercase) refl (length text) 8 x short
-      (below (length text) x packed))
-      ∙ no_marks is_ascii_uppercase (length text) x ∙ ap (list_all (λ b. not (is_ascii_uppercase b))) shows
+  no_upper_marked = grind (arith, wider, short, below, packed, no_marks, shows)
 
   pub title_marked : eqb (flags (is_in_range 97 122) (bit_xor x 32)) (flags is_text_byte x)
       ≡ is_title_letters text
-  title_marked = ap (eqb (flags (is_in_range 97 122) (bit_xor x 32))) all_marked
-      ∙ title_marks (length text) x packed ∙ ap is_title_letters shows
+  title_marked = grind (arith, all_marked, title_marks, packed, shows)
 
   pub counted : count_ones (flags is_text_byte x) ≡ length text
   counted = ap count_ones all_marked ∙ ones_spread (length text)
 
   pub count_packed : (m : ℕ) → m ≡ count_ones (flags is_text_byte x) → IsPacked m x
-  count_packed m e = subst (λ (n : ℕ). IsPacked n x) (sym (e ∙ counted)) packed
+  count_packed m e = grind (arith, counted, packed)
 
   pub count_shows : (m : ℕ) → m ≡ count_ones (flags is_text_byte x) → bytes m x ≡ text
   count_shows m e = ap (λ n. bytes n x) (e ∙ counted) ∙ shows

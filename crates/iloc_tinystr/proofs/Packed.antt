@@ -1,6 +1,6 @@
 -- Numbers that are those of at most eight bytes.
-use Rattle.std.proofs.Common.{◌≡◌, ℕ, zero, suc, ◌+◌, ◌*◌, ◌/◌, ◌%◌, ◌^◌, ◌<◌, ◌≤◌, get_or, List, length, map}
-use Rattle.std.proofs.Common.{refl, sym, ◌∙◌, ap, arith, pow-suc}
+use Rattle.std.proofs.Common.{◌≡◌, ℕ, zero, suc, ◌+◌, ◌*◌, ◌/◌, ◌%◌, ◌^◌, ◌<◌, ◌≤◌, get_or, List, length}
+use Rattle.std.proofs.Common.{map, refl, ◌∙◌, ap, arith, pow-suc}
 use Rattle.std.proofs.Math.Nat.{pow-le-pow_right}
 use Rattle.std.proofs.lemmas.Nat.{pow-add}
 use Rattle.std.proofs.lemmas.List.{length-map}
@@ -10,7 +10,7 @@ use Rattle.iloc_tinystr.proofs.ByBytes.{length_bytes, bytes-number, Keeps, Bytew
 pub number-lt : (n x : ℕ) → number (bytes n x) < 256 ^ n
 unfolding bytes
 number-lt zero x = omega arith
-number-lt (suc n) x = omega (arith, pow-suc 256 n, number-lt n (x / 256))
+number-lt (suc n) x = grind (arith, pow-suc, number-lt n (x / 256))
 
 pub below : (n x : ℕ) → IsPacked n x → x < 256 ^ n
 below n x h = omega (arith, number-lt n x, h.whole)
@@ -22,7 +22,7 @@ same_power (suc m) =
     omega (arith, pow-suc 256 m, same_power m, pow-add 2 (8 * m) 8, ap (λ k. 2 ^ k) turned)
 
 pub le_power : (i j : ℕ) → i ≤ j → 2 ^ i ≤ 2 ^ j
-le_power i j le = let two : 0 < 2 = omega arith in pow-le-pow_right two le
+le_power i j le = grind (arith, pow-le-pow_right)
 
 pub lt_power : (i j : ℕ) → 2 ^ i < 2 ^ j → i < j
 lt_power i j h = grind (arith, le_power j i)
@@ -34,12 +34,9 @@ pub wider : (h : ℕ → ℕ) → h 0 ≡ 0 → (n m x : ℕ) → n ≤ m → x 
     number (map h (bytes m x)) ≡ number (map h (bytes n x))
 unfolding bytes
 wider h e zero zero x le lt = refl
-wider h e zero (suc m) x le lt =
-    let low : x % 256 ≡ 0 = omega arith in
-    omega (arith, ap h low, wider h e zero m (x / 256) (omega arith) (omega arith))
+wider h e zero (suc m) x le lt = grind (arith, wider h e zero m (x / 256))
 wider h e (suc n) zero x le lt = absurd (omega arith)
-wider h e (suc n) (suc m) x le lt =
-    ap (λ y. h (x % 256) + 256 * y) (wider h e n m (x / 256) (omega arith) (omega (arith, pow-suc 256 n)))
+wider h e (suc n) (suc m) x le lt = grind (arith, pow-suc, wider h e n m (x / 256))
 
 -- the number of a list of bytes is a word, and shows that list
 pub record Makes (n y : ℕ) (ys : List ℕ) : Type 0 where
@@ -48,12 +45,7 @@ pub record Makes (n y : ℕ) (ys : List ℕ) : Type 0 where
 
 pub makes : (n y : ℕ) (ys : List ℕ) → length ys ≡ n → n ≤ 8 → ((k : ℕ) → get_or ys k 0 < 256) →
     y ≡ number ys → Makes n y ys
-makes n y ys long few fit e =
-    let shown : bytes n y ≡ ys = rw (e, ← long) (bytes-number ys fit) in
-    record {
-      word = record { few = few; counted = length_bytes n y; whole = ap number shown ∙ sym e };
-      shows = shown;
-    }
+makes n y ys long few fit e = grind (arith, bytes-number, length_bytes)
 
 pub fit-map : (f : ℕ → ℕ) → Keeps f → (n x k : ℕ) → get_or (map f (bytes n x)) k 0 < 256
 unfolding bytes
@@ -70,8 +62,7 @@ changed {n} {x} {y} {f} h none b =
 -- the first byte of a word that has one, and the second
 pub first_is : (n x : ℕ) (xs : List ℕ) → bytes n x ≡ xs → 0 < length xs → x % 256 ≡ get_or xs 0 0
 unfolding bytes
-first_is zero x xs e some = absurd (omega (arith, ap length e))
-first_is (suc n) x xs e some = ap (λ ys. get_or ys 0 0) e
+first_is n x xs h k = grind arith
 
 pub second_is : (n x : ℕ) (xs : List ℕ) → bytes n x ≡ xs → 1 < length xs → x / 256 % 256 ≡ get_or xs 1 0
 unfolding bytes

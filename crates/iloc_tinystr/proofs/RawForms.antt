@@ -1,5 +1,5 @@
 -- Raw forms: a text, followed by zeros.
-use Rattle.std.proofs.Common.{◌≡◌, ℕ, zero, suc, ◌+◌, ◌-◌, ◌*◌, ◌/◌, ◌%◌, ◌^◌, ◌<◌, ◌≤◌, get_or, List, []}
+use Rattle.std.proofs.Common.{◌≡◌, ℕ, zero, suc, ◌+◌, ◌-◌, ◌/◌, ◌^◌, ◌<◌, ◌≤◌, get_or, List, []}
 use Rattle.std.proofs.Common.{◌∷◌, ◌++◌, length, take, drop, refl, sym, ◌∙◌, ap, arith}
 use Rattle.std.proofs.lemmas.Nat.{le_bytes_8}
 use Rattle.std.specs.Int.{w64, from_le_bytes, to_le_bytes}
@@ -16,7 +16,7 @@ take_bytes : (n m x : ℕ) → n ≤ m → take n (bytes m x) ≡ bytes n x
 unfolding bytes
 take_bytes zero m x h = refl
 take_bytes (suc n) zero x h = absurd (omega arith)
-take_bytes (suc n) (suc m) x h = ap (λ xs. x % 256 ∷ xs) (take_bytes n m (x / 256) (omega arith))
+take_bytes (suc n) (suc m) x h = grind (arith, take_bytes n m (x / 256))
 
 -- the lowest bytes of a word
 pub lowest_bytes : (n x : ℕ) → n ≤ 8 → x < 2 ^ 64 → take n (to_le_bytes w64 x) ≡ bytes n x
@@ -34,7 +34,7 @@ Bytes xs = (k : ℕ) → get_or xs k 0 < 256
 pub number-zeros : (xs : List ℕ) (k : ℕ) → number (xs ++ replicate k 0) ≡ number xs
 number-zeros [] zero = refl
 number-zeros [] (suc k) = omega (arith, number-zeros [] k)
-number-zeros (x ∷ xs) k = ap (λ y. x + 256 * y) (number-zeros xs k)
+number-zeros (x ∷ xs) k = grind (arith, number-zeros xs k)
 
 pub fit-padded : (xs : List ℕ) (k : ℕ) → Bytes xs → Bytes (xs ++ replicate k 0)
 fit-padded [] zero fit i = omega arith
@@ -44,7 +44,7 @@ fit-padded (x ∷ xs) k fit zero = fit 0
 fit-padded (x ∷ xs) k fit (suc i) = fit-padded xs k (λ j. fit (suc j)) i
 
 pub length-padded : (xs : List ℕ) (n : ℕ) → n ≤ 8 → length xs ≡ n → length (xs ++ replicate (8 - n) 0) ≡ 8
-length-padded xs n few long = simp (length-append, length-replicate) (omega arith)
+length-padded xs n few long = grind (arith, length-append, length-replicate)
 
 -- the n bytes of a shorter text's number are its raw form
 pub bytes-text : (text : List ℕ) (k : ℕ) → Bytes text →
@@ -61,7 +61,7 @@ widened_is n raw copied same = λ i. same i ++ drop-replicate n 8 0 i
 -- its number
 pub number_widened : (n : ℕ) (raw : List ℕ) → n ≤ 8 → length raw ≡ n →
     from_le_bytes w64 (raw ++ replicate (8 - n) 0) ≡ number raw
-number_widened n raw few long = from_eight _ (length-padded raw n few long) ∙ number-zeros raw (8 - n)
+number_widened n raw few long = grind (arith, from_eight, length-padded, number-zeros)
 
 -- the eight bytes of a packed number are its bytes, followed by zeros
 pub eight_padded : (n x : ℕ) (xs : List ℕ) → IsPacked n x → bytes n x ≡ xs →

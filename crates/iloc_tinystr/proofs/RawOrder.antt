@@ -1,5 +1,5 @@
 -- Raw forms of one size compare as their numbers do.
-use Rattle.std.proofs.Common.{Equal, Less, Greater, Ordering, ◌≡◌, ℕ, zero, suc, ◌+◌, ◌-◌, ◌*◌, ◌<◌, ◌≤◌}
+use Rattle.std.proofs.Common.{Equal, Ordering, ◌≡◌, ℕ, zero, suc, ◌+◌, ◌-◌, ◌*◌, ◌<◌, ◌≤◌}
 use Rattle.std.proofs.Common.{◌&&◌, true, eqb, List, [], ◌∷◌, ◌++◌, length, refl, sym, ◌∙◌, ap, arith}
 use Rattle.std.specs.Prelude.{nat_eq}
 use Rattle.std.proofs.lemmas.Bool.Decides.{nat_tests}
@@ -30,8 +30,8 @@ number_eq xs ys e h k = absurd (omega arith)
 pub number_same : (a b : List ℕ) → list_all is_text_byte a ≡ true → list_all is_text_byte b ≡ true
     → eqb (number a) (number b) ≡ pointwise nat_eq a b
 number_same [] [] h k = refl
-number_same [] (y ∷ b) h k = let t = first-text y b k in grind (arith, nat_tests, t.0)
-number_same (x ∷ a) [] h k = let t = first-text x a h in grind (arith, nat_tests, t.0)
+number_same [] (y ∷ b) h k = grind (arith, first-text)
+number_same (x ∷ a) [] h k = grind (arith, first-text)
 number_same (x ∷ a) (y ∷ b) h k =
     let s = first-text x a h in
     let t = first-text y b k in
@@ -48,9 +48,7 @@ cmp_step : (a b x y : ℕ) → x < 256 → y < 256 →
 cmp_step a b x y h k = grind (arith, nat_tests)
 
 then_equal : (o : Ordering) → o ≡ ordering_then o Equal
-then_equal Less = refl
-then_equal Equal = refl
-then_equal Greater = refl
+then_equal o = grind arith
 
 high_cmp : (a b : ℕ) (xs ys : List ℕ) → length xs ≡ length ys → Bytes xs → Bytes ys →
     nat_cmp (high_from a xs) (high_from b ys) ≡ ordering_then (nat_cmp a b) (slice_cmp nat_cmp xs ys)
@@ -72,15 +70,11 @@ level (suc k) = level k
 cmp-padded : (xs ys : List ℕ) (k : ℕ) → length xs ≡ length ys →
     slice_cmp nat_cmp (xs ++ replicate k 0) (ys ++ replicate k 0) ≡ slice_cmp nat_cmp xs ys
 cmp-padded [] [] k e = level k
-cmp-padded (x ∷ xs) (y ∷ ys) k e = ap (ordering_then (nat_cmp x y)) (cmp-padded xs ys k (omega arith))
+cmp-padded (x ∷ xs) (y ∷ ys) k e = grind (arith, cmp-padded xs ys k)
 cmp-padded xs ys k e = absurd (omega arith)
 
 pub raw_cmp : (n : ℕ) (xs ys : List ℕ) → n ≤ 8 → length xs ≡ n → length ys ≡ n → Bytes xs → Bytes ys
     → nat_cmp (from_be_bytes w64 (xs ++ replicate (8 - n) 0)) (from_be_bytes w64 (ys ++ replicate (8 - n) 0))
     ≡ slice_cmp nat_cmp xs ys
 raw_cmp n xs ys few ex ey h k =
-    let lx = length-padded xs n few ex in
-    let ly = length-padded ys n few ey in
-    (λ i. nat_cmp (from_eight_high _ lx i) (from_eight_high _ ly i))
-    ∙ high_cmp 0 0 _ _ (lx ∙ sym ly) (fit-padded xs (8 - n) h) (fit-padded ys (8 - n) k)
-    ∙ cmp-padded xs ys (8 - n) (ex ∙ sym ey)
+    grind (arith, length-padded, from_eight_high, high_cmp, fit-padded, cmp-padded)

@@ -3,7 +3,6 @@ use Rattle.std.proofs.Common.{◌≡◌, ℕ, zero, suc, ◌+◌, ◌-◌, ◌*�
 use Rattle.std.proofs.Common.{◌&&◌, cond, eqb, List, [], ◌∷◌, ◌++◌, length, map, replicate, Fits, w8, refl}
 use Rattle.std.proofs.Common.{sym, ap, ◌∙◌, arith, pow-suc}
 use Rattle.std.proofs.lemmas.Bool.{agree_below, agree_below_at}
-use Rattle.std.proofs.lemmas.Bool.Decides.{nat_tests}
 use Rattle.std.proofs.lemmas.List.{length-map}
 use Rattle.std.proofs.lemmas.Nat.{one_shl, pow_pos}
 use Rattle.std.proofs.lemmas.Simd.{zip2_of_maps, splat_is_map, map-map, mask_l-mod}
@@ -24,12 +23,8 @@ scaled (suc n) y = 256 * scaled n y
 
 bytes_pair : (n m x y : ℕ) → x < 256 ^ n → bytes (more n m) (x + scaled n y) ≡ bytes n x ++ bytes m y
 unfolding bytes
-bytes_pair zero m x y l = let same : x + y ≡ y = omega arith in ap (bytes m) same
-bytes_pair (suc n) m x y l =
-    let first : (x + 256 * scaled n y) % 256 ≡ x % 256 = omega arith in
-    let rest : (x + 256 * scaled n y) / 256 ≡ x / 256 + scaled n y = omega arith in
-    (λ i. first i ∷ bytes (more n m) (rest i))
-    ∙ ap (λ r. x % 256 ∷ r) (bytes_pair n m (x / 256) y (omega (arith, pow-suc 256 n)))
+bytes_pair zero m x y l = grind arith
+bytes_pair (suc n) m x y l = grind (arith, pow-suc, bytes_pair n m (x / 256) y)
 
 pub bytes_of_pair : (x y : ℕ) → x < 2 ^ 64 → bytes 16 (x + 2 ^ 64 * (y + 0)) ≡ bytes 8 x ++ bytes 8 y
 bytes_of_pair x y l =
@@ -70,26 +65,17 @@ marked_first : (p : ℕ → Bool) → p 0 ≡ false → (n m x : ℕ) → n ≤ 
     mask_l (map p (bytes m x)) ≡ mask_l (map p (bytes n x))
 unfolding bytes
 marked_first p none zero zero x le lt = refl
-marked_first p none zero (suc m) x le lt =
-    let low : x % 256 ≡ 0 = omega arith in
-    let clear : p (x % 256) ≡ false = ap p low ∙ none in
-    ap (λ b. cond b 1 0 + 2 * mask_l (map p (bytes m (x / 256)))) clear
-    ∙ omega (arith, marked_first p none zero m (x / 256) (omega arith) (omega arith))
+marked_first p none zero (suc m) x le lt = grind (arith, marked_first p none zero m (x / 256))
 marked_first p none (suc n) zero x le lt = absurd (omega arith)
-marked_first p none (suc n) (suc m) x le lt =
-    ap (λ y. cond (p (x % 256)) 1 0 + 2 * y)
-    (marked_first p none n m (x / 256) (omega arith) (omega (arith, pow-suc 256 n)))
+marked_first p none (suc n) (suc m) x le lt = grind (arith, pow-suc, marked_first p none n m (x / 256))
 
 marked_step : (t all : Bool) (a b : ℕ) → eqb a b ≡ all → eqb (cond t 1 0 + 2 * a) (1 + 2 * b) ≡ (t && all)
-marked_step true all a b e = grind (arith, nat_tests)
-marked_step false all a b e = grind (arith, nat_tests)
+marked_step t all a b h = grind arith
 
 all_of : (p : ℕ → Bool) (n x : ℕ) → eqb (mask_l (map p (bytes n x))) (2 ^ n - 1) ≡ list_all p (bytes n x)
 unfolding bytes
 all_of p zero x = refl
-all_of p (suc n) x =
-    let ones : 2 ^ suc n - 1 ≡ 1 + 2 * (2 ^ n - 1) = omega (arith, pow-suc 2 n, pow_pos n) in
-    ap (eqb (mask_l (map p (bytes (suc n) x)))) ones ∙ marked_step (p (x % 256)) _ _ _ (all_of p n (x / 256))
+all_of p (suc n) x = grind (arith, pow-suc, pow_pos, marked_step, all_of p n (x / 256))
 
 -- a bit is set for each byte of a piece exactly if all pass
 pub all_marked : (p : ℕ → Bool) → p 0 ≡ false → (n x : ℕ) → IsPacked n x →
