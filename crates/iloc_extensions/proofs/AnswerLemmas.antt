@@ -1,21 +1,18 @@
 -- From what a block's reader answers to the answer of the whole.
-use Rattle.std.proofs.Common.{◌≡◌, OnOk, IfErr, ℕ, ◌≤◌, Bool, true, false, cond, ◌||◌, ◌==◌, List, [], ◌∷◌}
+use Rattle.std.proofs.Common.{◌≡◌, OnOk, IfErr, ℕ, ◌≤◌, Bool, true, false, ◌||◌, ◌==◌, List, [], ◌∷◌}
 use Rattle.std.proofs.Common.{length, refl, sym, ap, ◌∙◌, subst, arith, Some, None, Result, Ok, Err}
-use Rattle.std.proofs.Common.{true≢false, nat_lt, suc, Option, option_map, not, is_some, ◌&&◌}
+use Rattle.std.proofs.Common.{true≢false, nat_lt, Option, option_map, not, is_some, ◌&&◌}
 use Rattle.std.specs.Result.{result_and}
-use Rattle.iloc_langid.specs.Reads as langid
 use Rattle.std.specs.List.{AllByRecursion, list_any}
 use Rattle.std.specs.Char.{is_ascii_alphanumeric, to_ascii_lowercase}
 use Rattle.std.specs.Ordering.{nat_cmp}
 use Rattle.std.specs.FinMap.{put}
 use Rattle.std.proofs.lemmas.Bool.Decides.{nat_tests}
 use Rattle.iloc_spec_grammar.specs.Syntax.{code_x, code_u, code_t, Text, languages, IsOther}
-use Rattle.iloc_spec_grammar.specs.Syntax.{is_other_singleton, kept, is_one_byte, front}
-use Rattle.iloc_spec_grammar.specs.Syntax.{blocks}
+use Rattle.iloc_spec_grammar.specs.Syntax.{is_other_singleton, kept, is_one_byte, front, blocks}
 use Rattle.iloc_spec_grammar.specs.Syntax as written
 use Rattle.iloc_spec_grammar.specs.Meaning.{Extensions, no_extensions, BlocksMean, HasBlockFault}
 use Rattle.iloc_spec_grammar.specs.Meaning.{normal_values}
-use Rattle.iloc_spec_grammar.specs.ByBlocks.{OtherMeans}
 use Rattle.iloc_spec_grammar.specs.Meaning as faults
 use Rattle.iloc_subtags.specs.NextPiece.{byte_at}
 use Rattle.iloc_subtags.proofs.ByteLemmas.{byte_first, no_byte}
@@ -41,9 +38,9 @@ use Rattle.iloc_extensions.specs.Blocks.{BlocksDone, BlockAt, BlockReads, is_rea
 use Rattle.iloc_extensions.proofs.PartAnswers.{UnicodeBlock, TransformBlock, OtherBlock}
 use Rattle.iloc_extensions.proofs.FaultNames.{private_names}
 use Rattle.iloc_extensions.proofs.RoundLaws.{no_letter, met_before, unicode_done, unicode_bad, unicode_long}
-use Rattle.iloc_extensions.proofs.RoundLaws.{transform_done, transform_repeats, transform_bad, transform_long}
-use Rattle.iloc_extensions.proofs.RoundLaws.{other_done, other_bad, other_long, private_done, private_bad}
-use Rattle.iloc_extensions.proofs.RoundLaws.{private_long}
+use Rattle.iloc_extensions.proofs.RoundLaws.{transform_done, transform_repeats, transform_bad}
+use Rattle.iloc_extensions.proofs.RoundLaws.{transform_long, other_done, other_bad, other_long}
+use Rattle.iloc_extensions.proofs.RoundLaws.{private_done, private_bad, private_long}
 use Rattle.std.proofs.lemmas.Bool.{not-false}
 
 -- few words want no memory
@@ -62,7 +59,7 @@ no_many (f ∷ fs) a h = at (has_many_values f) refl (no_many fs a.1) h
     at false e more k = more k
 
 short_unicode : (ps : List Text) → IsShortUnicode ps → UnicodeWantsMemory ps → ⊥
-short_unicode ps s (fifth_attribute h) = let a = s.attributes in omega (arith, a, h)
+short_unicode ps s (fifth_attribute h) = grind arith
 short_unicode ps s (for_keywords (second_key h)) = let a = s.keys in omega (arith, a, h)
 short_unicode ps s (for_keywords (fifth_value h)) = no_many _ s.values h
 
@@ -77,9 +74,7 @@ module _ {start : List Text} {c : ℕ} {ps : List Text} {M : Extensions}
   pub unicode_goes : to_ascii_lowercase c ≡ code_u → (rest : List Text) (u : Unicode) →
       UnicodeBlock ps rest (Ok u) →
       BlocksDone languages start rest (record M { unicode = unicode.value_of u })
-  unicode_goes e rest u h =
-      subst (λ (r : List Text). BlocksDone languages start r (record M { unicode = unicode.value_of u }))
-      (sym h.1) (unicode_done a e (unicode.value_of u) h.0)
+  unicode_goes e rest u h = grind (arith, unicode_done)
 
   pub unicode_fails : to_ascii_lowercase c ≡ code_u →
       (rest more : List Text) (N : Extensions) (f : ParseError) → UnicodeBlock ps rest (Err f) →
@@ -93,9 +88,7 @@ module _ {start : List Text} {c : ℕ} {ps : List Text} {M : Extensions}
   pub transform_goes : to_ascii_lowercase c ≡ code_t → (rest : List Text) (m : Transform) →
       TransformBlock ps rest (Ok m) →
       BlocksDone languages start rest (record M { transform = transform.value_of m })
-  transform_goes e rest m h = subst
-      (λ (r : List Text). BlocksDone languages start r (record M { transform = transform.value_of m }))
-      (sym h.1) (transform_done a e (transform.value_of m) h.0)
+  transform_goes e rest m h = grind (arith, transform_done)
 
   pub transform_fails : to_ascii_lowercase c ≡ code_t →
       (rest more : List Text) (N : Extensions) (f : ParseError) → TransformBlock ps rest (Err f) →
@@ -109,18 +102,15 @@ module _ {start : List Text} {c : ℕ} {ps : List Text} {M : Extensions}
 
   pub private_goes : to_ascii_lowercase c ≡ code_x → (rest ws : List Text) → PrivateFills ps rest (Ok ws) →
       BlocksDone languages start rest (record M { private = ws })
-  private_goes e rest ws h =
-      subst (λ (r : List Text). BlocksDone languages start r (record M { private = ws })) (sym h.left)
-      (private_done a e ws (record { words = h.follows.words; nonempty = h.follows.nonempty }, h.means))
+  private_goes e rest ws h = grind (arith, private_done)
 
   pub private_fails : to_ascii_lowercase c ≡ code_x →
       (rest more : List Text) (N : Extensions) (f : ParseError) → PrivateFills ps rest (Err f) →
       BlockReads start more N (Err f)
-  private_fails e rest more N InvalidLanguage h = let other = private_names ps faults.InvalidLanguage h in cc
-  private_fails e rest more N InvalidSubtag h = let other = private_names ps faults.InvalidSubtag h in cc
+  private_fails e rest more N InvalidLanguage h = grind (arith, private_names)
+  private_fails e rest more N InvalidSubtag h = grind (arith, private_names)
   private_fails e rest more N InvalidExtension (not_private n) = private_bad a e n
-  private_fails e rest more N DuplicatedExtension h =
-      let other = private_names ps faults.DuplicatedExtension h in cc
+  private_fails e rest more N DuplicatedExtension h = grind (arith, private_names)
   private_fails e rest more N OutOfMemory h = private_long a e (λ l. omega (arith, l, h))
 
   pub private_reads : to_ascii_lowercase c ≡ code_x →
@@ -133,14 +123,7 @@ module _ {start : List Text} {c : ℕ} {ps : List Text} {M : Extensions}
       (rest : List Text) (o : ℕ × List Text) (os : List (ℕ × List Text)) →
       OtherBlock (to_ascii_lowercase c) ps rest (Ok o) → os ≡ put nat_cmp o.0 o.1 M.others →
       BlocksDone languages start rest (record M { others = os })
-  other_goes k rest o os h e =
-      let same : os ≡ put nat_cmp (to_ascii_lowercase c) (kept (front ps)) M.others =
-      e ∙ ap (λ (x : ℕ × List Text). put nat_cmp x.0 x.1 M.others) h.0 in
-      let means =
-      subst (λ (w : List Text). OtherMeans (front ps) w) (ap (λ (x : ℕ × List Text). x.1) h.0) h.1 in
-      subst (λ (r : List Text). BlocksDone languages start r (record M { others = os })) (sym h.2) (subst
-      (λ (l : List (ℕ × List Text)). BlocksDone languages start (from_block ps) (record M { others = l }))
-      (sym same) (other_done a k means))
+  other_goes k rest o os h e = grind (arith, other_done)
 
   pub other_fails : is_other_singleton (to_ascii_lowercase c) ≡ true →
       (rest more : List Text) (N : Extensions) (f : ParseError) →
@@ -173,7 +156,7 @@ part_refused {M = M} ext d h e r = met_before d h (ap (is_read M) (sym e) ∙ r)
 pub block_at : {start : List Text} {c : ℕ} {ps : List Text} {M : Extensions} (ext : ℕ) →
     BlocksDone languages start ((c ∷ []) ∷ ps) M → is_ascii_alphanumeric c ≡ true →
     ext ≡ to_ascii_lowercase c → is_read M ext ≡ false → BlockAt languages start c ps M
-block_at {M = M} ext d h e r = record { before = d; letter = h; new = ap (is_read M) (sym e) ∙ r }
+block_at ext h k e f = grind arith
 
 pub at_letter : (c ext : ℕ) → to_ascii_lowercase c ≡ ext → is_other_singleton ext ≡ true →
     is_other_singleton (to_ascii_lowercase c) ≡ true
@@ -186,8 +169,7 @@ pub other_inserted : {start : List Text} {c : ℕ} {ps : List Text} {M : Extensi
     → OtherBlock ext ps rest (Ok o) → M.others ≡ old → OnOk r (os ≡ put nat_cmp o.0 o.1 old) →
     IfErr r (λ f. f ≡ OutOfMemory) → BlockReads start rest (record M { others = os }) r
 other_inserted {c = c} {ps = ps} {M = M} a ext e k rest o old os (Ok x) h m g i =
-    other_goes a (at_letter c ext e k) rest o os (subst (λ (q : ℕ). OtherBlock q ps rest (Ok o)) (sym e) h)
-    (g ∙ ap (put nat_cmp o.0 o.1) (sym m))
+    grind (arith, other_goes, at_letter, OtherBlock)
 other_inserted {c = c} {M = M} a ext e k rest o old os (Err f) h m g i =
     other_full a (at_letter c ext e k) h.1.0 rest (record M { others = os }) f i
 
@@ -195,16 +177,13 @@ other_inserted {c = c} {M = M} a ext e k rest o old os (Err f) h m g i =
 
 from_block_short : (ps : List Text) → length (from_block ps) ≤ length ps
 from_block_short [] = omega arith
-from_block_short (p ∷ ps) = let h = from_block_short ps in
-    elim (is_one_byte p) as (λ b. length (cond b (p ∷ ps) (from_block ps)) ≤ suc (length ps))
-    [ true ↦ omega arith | false ↦ omega (arith, h) ]
+from_block_short (p ∷ ps) = grind (arith, from_block_short ps)
 
 pub rest_short : (ps rest : List Text) → rest ≡ from_block ps → length rest ≤ length ps
-rest_short ps rest e =
-    let h = from_block_short ps in let k = ap (λ (l : List Text). length l) e in omega (arith, h, k)
+rest_short ps rest e = grind (arith, from_block_short)
 
 pub none_short : (ps rest : List Text) → rest ≡ [] → length rest ≤ length ps
-none_short ps rest e = let k = ap (λ (l : List Text). length l) e in omega (arith, k)
+none_short ps rest e = grind arith
 
 pub on_any : {A X E : Type 0} (r : Result X E) → A → OnOk r A
 on_any (Ok x) a = a
@@ -212,47 +191,34 @@ on_any (Err e) a = tt
 
 pub private_shorter : (ps rest ws : List Text) (r : Result (Unit {0}) ParseError) →
     PrivateFills ps rest (result_and r (Ok ws)) → OnOk r (length rest ≤ length ps)
-private_shorter ps rest ws (Ok x) h = none_short ps rest h.left
-private_shorter ps rest ws (Err e) h = tt
+private_shorter ps rest ws r h = grind (arith, none_short)
 
 -- a part that wasn't read is empty
 
 no_items : {X : Type 0} (xs : List X) → (length xs == 0) ≡ true → xs ≡ []
 no_items [] h = refl
-no_items (x ∷ xs) h = absurd (more (length xs) h)
-  where
-    more : (n : ℕ) → (suc n == 0) ≡ true → ⊥
-    more n h = grind (arith, nat_tests)
+no_items (x ∷ xs) h = grind arith
 
 both_true : (a b : Bool) → not (a && b) ≡ false → (a ≡ true) × (b ≡ true)
-both_true true true h = (refl, refl)
-both_true true false h = absurd (true≢false h)
-both_true false b h = absurd (true≢false h)
+both_true a b h = grind arith
 
 no_value : {X Y : Type 0} (f : X → Y) (o : Option X) → not (is_some (option_map f o)) ≡ true → o ≡ None
-no_value f None h = refl
-no_value f (Some x) h = absurd (true≢false (sym h))
+no_value f o h = grind arith
 
 read_at : (M : Extensions) (c d : ℕ) → c ≡ d → is_read M c ≡ false → is_read M d ≡ false
 read_at M c d e h = ap (is_read M) (sym e) ∙ h
 
 pub no_unicode : (M : Extensions) (c : ℕ) → c ≡ code_u → is_read M c ≡ false →
     (M.unicode.attributes ≡ []) × (M.unicode.keywords ≡ [])
-no_unicode M c e h =
-    let p = both_true _ _ (read_at M c code_u e h) in
-    (no_items M.unicode.attributes p.0, no_items M.unicode.keywords p.1)
+no_unicode M c e h = grind (arith, both_true, read_at, no_items)
 
 pub no_transform : (M : Extensions) (m : Transform) (c : ℕ) → M.transform ≡ transform.value_of m →
     c ≡ code_t →
     is_read M c ≡ false → (m.lang ≡ None) × (m.fields ≡ [])
-no_transform M m c v e h =
-    let p =
-    both_true _ _ (ap (λ (t : written.Transform). not (not (is_some t.id) && (length t.fields == 0))) (sym v)
-    ∙ read_at M c code_t e h) in
-    (no_value langid.value_of m.lang p.0, no_items m.fields p.1)
+no_transform M m c v e h = grind (arith, both_true, read_at, no_value, no_items)
 
 pub no_private : (M : Extensions) (c : ℕ) → c ≡ code_x → is_read M c ≡ false → M.private ≡ []
-no_private M c e h = no_items M.private (not-false _ (read_at M c code_x e h))
+no_private M c e h = grind (arith, no_items, not-false, read_at)
 
 -- the whole loop
 
@@ -277,12 +243,7 @@ none_mean = (
 
 pub none_done : (start : List Text) (M : Extensions) → starts_block start ≡ true → M ≡ no_extensions →
     BlocksDone languages start start M
-none_done start M s e = record {
-  done = [];
-  together = refl;
-  begins = s;
-  means = subst (BlocksMean languages []) (sym e) none_mean;
-}
+none_done start M s e = grind (arith, none_mean)
 
 pub all_done : (start : List Text) (M : Extensions) → BlocksDone languages start [] M →
     BlocksMean languages (blocks start) M
@@ -291,20 +252,14 @@ all_done start M d = subst (λ (bs : List (ℕ × List Text)). BlocksMean langua
 
 pub whole_fails : (start rest more : List Text) (M : Extensions) (f : ParseError) →
     BlockReads start rest M (Err f) → BlocksReads start M (Err f)
-whole_fails start rest more M InvalidLanguage h = h
-whole_fails start rest more M InvalidSubtag h = h
-whole_fails start rest more M InvalidExtension h = h
-whole_fails start rest more M DuplicatedExtension h = h
-whole_fails start rest more M OutOfMemory h = h
+whole_fails start rest more M f h = grind arith
 
 -- the loop goes on after a byte
 pub goes_on : {start : List Text} {M : Extensions} (now rest : List Text) (b : ℕ) →
     BlocksDone languages start now M → Some b ≡ byte_at now → rest ≡ rest_of now →
     BlocksDone languages start ((b ∷ []) ∷ rest) M
-goes_on {start = start} {M = M} now rest b d e r =
-    subst (λ (l : List Text). BlocksDone languages start l M) (byte_first now rest b e r) d
+goes_on now rest b h k e = grind (arith, byte_first)
 
 pub stops : (start now : List Text) (M : Extensions) → BlocksDone languages start now M →
     None ≡ byte_at now → BlocksMean languages (blocks start) M
-stops start now M d e = all_done start M
-    (subst (λ (l : List Text). BlocksDone languages start l M) (no_byte now d.begins e) d)
+stops start now M d e = grind (arith, all_done, no_byte)

@@ -1,16 +1,15 @@
 -- One block more: what it adds to what was read, and which singletons were read.
-use Rattle.std.proofs.Common.{◌≡◌, ℕ, suc, ◌+◌, ◌<◌, Bool, true, false, cond, ◌||◌, ◌&&◌, not, ◌==◌, List, []}
-use Rattle.std.proofs.Common.{◌∷◌, length, map, refl, sym, ap, ap₂, ◌∙◌, subst, arith, Option, Some, None}
-use Rattle.std.proofs.Common.{is_some, option_map, true≢false}
+use Rattle.std.proofs.Common.{◌≡◌, ℕ, suc, ◌+◌, ◌<◌, Bool, true, false, cond, ◌&&◌, not, ◌==◌, List}
+use Rattle.std.proofs.Common.{[], ◌∷◌, length, map, refl, sym, ap, ◌∙◌, subst, arith, Option, Some}
+use Rattle.std.proofs.Common.{None, is_some, option_map, true≢false}
 use Rattle.std.specs.Prelude.{if◌then◌else◌}
 use Rattle.std.specs.List.{list_any}
 use Rattle.std.specs.Char.{is_ascii_alphanumeric}
 use Rattle.std.specs.Ordering.{nat_cmp, eq_by_cmp}
 use Rattle.std.specs.declared.cmp.Ordering.{Ordering}
-use Rattle.std.specs.declared.cmp.Ordering.TheVariants.{Less, Equal, Greater}
 use Rattle.std.specs.Cmp.{nat_cmp_total}
 use Rattle.std.specs.FinMap.{find, put}
-use Rattle.std.specs.FinMap.Entries.{by_order, is_some-find}
+use Rattle.std.specs.FinMap.Entries.{is_some-find}
 use Rattle.std.proofs.lemmas.Bool.Decides.{nat_tests}
 use Rattle.iloc_spec_grammar.specs.Syntax.{code_x, code_u, code_t, Text, lower, word_cmp, SpelledIdentifier}
 use Rattle.iloc_spec_grammar.specs.Syntax.{Unicode, Transform, Fields}
@@ -35,9 +34,7 @@ not_zero n = grind (arith, nat_tests)
 length-put : {K X : Type 0} (R : K → K → Ordering) (k : K) (v : X) (es : List (K × X)) →
     (length (put R k v es) == 0) ≡ false
 length-put R k v [] = refl
-length-put R k v (e ∷ es) = elim (R k e.0)
-    as (λ r. (length (by_order r ((k, v) ∷ e ∷ es) ((e.0, v) ∷ es) (e ∷ put R k v es)) == 0) ≡ false)
-    [ Less ↦ not_zero _ | Equal ↦ not_zero _ | Greater ↦ not_zero _ ]
+length-put R k v (e ∷ es) = grind (arith, not_zero)
 
 length-keys : {K X : Type 0} (es : List (K × X)) → length (map (λ e. e.0) es) ≡ length es
 length-keys [] = refl
@@ -76,8 +73,8 @@ some_transform T ps v m = ap (λ (u : Transform). not (is_some u.id) && (length 
     at None (f ∷ fs) h = fields_there f fs
 
 pub some_private : (ps ws : List Text) → IsPrivate ps → ws ≡ map lower ps → (length ws == 0) ≡ false
-some_private [] ws h e = absurd (let l = h.nonempty in omega (arith, l))
-some_private (p ∷ ps) ws h e = ap (λ (l : List Text). length l == 0) e ∙ not_zero (length (map lower ps))
+some_private [] ws h e = grind arith
+some_private (p ∷ ps) ws h e = grind (arith, not_zero)
 
 -- singletons that were read
 
@@ -89,18 +86,14 @@ known T q ds = is_some-find nat_cmp q (by_singleton ds) ∙ ap (list_any (eq_by_
 part_known : {X : Type 0} (Rule : List Text → X → Type 0) (is_empty : X → Bool) →
     ((ps : List Text) (v : X) → Rule ps v → is_empty v ≡ false) → (empty : X) → is_empty empty ≡ true →
     (o : Option (List Text)) (v : X) → PartIs Rule empty o v → not (is_empty v) ≡ is_some o
-part_known Rule is_empty some empty none None v h = ap (λ u. not (is_empty u)) h ∙ ap not none
-part_known Rule is_empty some empty none (Some ps) v h = ap not (some ps v h)
+part_known Rule is_empty h empty k o v e = grind arith
 
 same_test : (a b : ℕ) → (a == b) ≡ eq_by_cmp nat_cmp b a
 same_test a b = grind (arith, nat_tests)
 
 any_key : (q : ℕ) (os : List (ℕ × List Text)) → list_any (λ o. o.0 == q) os ≡ is_some (find nat_cmp q os)
 any_key q [] = refl
-any_key q (o ∷ os) = ap₂ ◌||◌ (same_test o.0 q) (any_key q os)
-    ∙ elim (eq_by_cmp nat_cmp q o.0)
-    as (λ b. (b || is_some (find nat_cmp q os)) ≡ is_some (cond b (Some o.1) (find nat_cmp q os)))
-    [ true ↦ refl | false ↦ refl ]
+any_key q (o ∷ os) = grind (arith, same_test, any_key q os)
 
 others_known : (q : ℕ) (bs : List (ℕ × List Text)) → is_other_singleton q ≡ true →
     is_some (find nat_cmp q (map (λ b. (b.0, kept b.1)) (other_blocks bs)))

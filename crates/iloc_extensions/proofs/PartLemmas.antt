@@ -1,6 +1,6 @@
 -- From what a part's reader takes at the front to what the block means.
-use Rattle.std.proofs.Common.{◌≡◌, ◌⊎◌, inl, inr, ℕ, ◌<◌, true, false, List, length, refl, sym, subst, Ok}
-use Rattle.std.proofs.Common.{Err}
+use Rattle.std.proofs.Common.{◌≡◌, ℕ, true, false, List, refl, Ok}
+use Rattle.std.proofs.Common.{Err, arith}
 use Rattle.iloc_spec_grammar.specs.Syntax.{Text, languages, kept, front}
 use Rattle.iloc_spec_grammar.specs.Reading.{starts_block}
 use Rattle.iloc_spec_grammar.specs.Meaning as faults
@@ -25,12 +25,11 @@ use Rattle.iloc_extensions.proofs.FaultNames.{unicode_names, transform_names, ot
 
 pub unicode_refused : (ps rest more : List Text) (e : ParseError) → UnicodeFills ps rest (Err e) →
     UnicodeBlock ps more (Err e)
-unicode_refused ps rest more InvalidLanguage g = let other = unicode_names ps faults.InvalidLanguage g in cc
-unicode_refused ps rest more InvalidSubtag g = let other = unicode_names ps faults.InvalidSubtag g in cc
+unicode_refused ps rest more InvalidLanguage g = grind (arith, unicode_names)
+unicode_refused ps rest more InvalidSubtag g = grind (arith, unicode_names)
 unicode_refused ps rest more InvalidExtension g =
     λ v h. unicode_agrees.refused ps faults.InvalidExtension v g h
-unicode_refused ps rest more DuplicatedExtension g =
-    let other = unicode_names ps faults.DuplicatedExtension g in cc
+unicode_refused ps rest more DuplicatedExtension g = grind (arith, unicode_names)
 unicode_refused ps rest more OutOfMemory g = g
 
 pub unicode_over : (ps rest more : List Text) (u : Unicode) → UnicodeFills ps rest (Ok u) →
@@ -43,24 +42,13 @@ unicode_whole ps rest u g s = unicode_agrees.whole ps (unicode.value_of u) rest 
 
 pub transform_refused : (ps rest more : List Text) (e : ParseError) →
     transform.TransformFills ps rest (Err e) → TransformBlock ps more (Err e)
-transform_refused ps rest more InvalidLanguage g = neither (transform_names ps faults.InvalidLanguage g)
-  where
-    neither : (faults.InvalidLanguage ≡ faults.InvalidSubtag)
-        ⊎ (faults.InvalidLanguage ≡ faults.InvalidExtension) → ⊥
-    neither (inl e) = cc
-    neither (inr e) = cc
+transform_refused ps rest more InvalidLanguage g = grind (arith, transform_names)
 transform_refused ps rest more InvalidSubtag (repeats r) = (repeats_by_block languages languages_table ps).1 r
 transform_refused ps rest more InvalidExtension (unread n u) = (
   λ r. n ((repeats_by_block languages languages_table ps).0 r),
   λ v h. (transform_agrees languages languages_table).refused ps faults.InvalidExtension v (unread n u) h,
 )
-transform_refused ps rest more DuplicatedExtension g =
-    neither (transform_names ps faults.DuplicatedExtension g)
-  where
-    neither : (faults.DuplicatedExtension ≡ faults.InvalidSubtag)
-        ⊎ (faults.DuplicatedExtension ≡ faults.InvalidExtension) → ⊥
-    neither (inl e) = cc
-    neither (inr e) = cc
+transform_refused ps rest more DuplicatedExtension g = grind (arith, transform_names)
 transform_refused ps rest more OutOfMemory g = g
 
 pub transform_over : (ps rest more : List Text) (m : Transform) →
@@ -80,14 +68,12 @@ transform_whole ps rest m g s =
 pub other_refused : (ext : ℕ) (ps rest more : List Text) (e : ParseError) →
     OtherReads ext ps rest (Err e) → RunsOutOnlyIf {X = ℕ × List Text} (OtherWantsMemory ps) (Err e) →
     OtherBlock ext ps more (Err e)
-other_refused ext ps rest more InvalidLanguage g w = let other = other_names ps faults.InvalidLanguage g in cc
-other_refused ext ps rest more InvalidSubtag g w = let other = other_names ps faults.InvalidSubtag g in cc
+other_refused ext ps rest more InvalidLanguage g w = grind (arith, other_names)
+other_refused ext ps rest more InvalidSubtag g w = grind (arith, other_names)
 other_refused ext ps rest more InvalidExtension g w =
     λ h. other_agrees.refused ps faults.InvalidExtension (kept (front ps)) g (h, refl)
-other_refused ext ps rest more DuplicatedExtension g w =
-    let other = other_names ps faults.DuplicatedExtension g in cc
-other_refused ext ps rest more OutOfMemory g w =
-    subst (λ (l : List Text). 4 < length (kept l)) (sym (other_front-front ps)) w
+other_refused ext ps rest more DuplicatedExtension g w = grind (arith, other_names)
+other_refused ext ps rest more OutOfMemory g w = grind (arith, other_front-front)
 
 pub other_over : (ext : ℕ) (ps rest more : List Text) (o : ℕ × List Text) →
     OtherReads ext ps rest (Ok o) → starts_block rest ≡ false → OtherBlock ext ps more (Err InvalidExtension)

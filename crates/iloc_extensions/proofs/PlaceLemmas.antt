@@ -14,9 +14,7 @@ use Rattle.iloc_spec_grammar.specs.Syntax.{Text}
 
 pub place_fits : (c : ℕ) (os : List (ℕ × List Text)) → how_many_up_to c os ≤ length os
 place_fits c [] = omega arith
-place_fits c (o ∷ os) = let h = place_fits c os in
-    elim (nat_lt c o.0) as (λ b. cond b 0 (suc (how_many_up_to c os)) ≤ suc (length os))
-    [ true ↦ omega arith | false ↦ omega (arith, h) ]
+place_fits c (o ∷ os) = grind (arith, place_fits c os)
 
 pub put_at_place : (c : ℕ) (ws : List Text) (os : List (ℕ × List Text)) →
     list_any (λ o. o.0 == c) os ≡ false → insert os (how_many_up_to c os) (c, ws) ≡ put nat_cmp c ws os
@@ -50,11 +48,8 @@ place_none c = refl
 
 pub place_hit : (c : ℕ) (o : ℕ × List Text) (os : List (ℕ × List Text)) → c < o.0 →
     how_many_up_to c (o ∷ os) ≡ 0
-place_hit c o os h = let above : nat_lt c o.0 ≡ true = grind (arith, nat_tests) in
-    ap (λ b. cond b 0 (suc (how_many_up_to c os))) above
+place_hit c o os h = grind arith
 
 pub place_miss : (c : ℕ) (o : ℕ × List Text) (os : List (ℕ × List Text)) → o.0 ≤ c →
     how_many_up_to c (o ∷ os) ≡ how_many_up_to c os + 1
-place_miss c o os h = let next : suc (how_many_up_to c os) ≡ how_many_up_to c os + 1 = omega arith in
-    let below : nat_lt c o.0 ≡ false = grind (arith, nat_tests) in
-    ap (λ b. cond b 0 (suc (how_many_up_to c os))) below ∙ next
+place_miss c o os h = grind arith

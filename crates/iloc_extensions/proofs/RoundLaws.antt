@@ -1,6 +1,6 @@
 -- One round of the reader of blocks: from the byte that begins a block to the next block, or to a refusal.
 use Rattle.std.proofs.lemmas.Bool.{false_from_ne_true}
-use Rattle.std.proofs.Common.{◌≡◌, ℕ, ◌≤◌, Bool, true, false, cond, ◌==◌, List, [], ◌∷◌, length, map, refl}
+use Rattle.std.proofs.Common.{◌≡◌, ℕ, ◌≤◌, Bool, true, false, ◌==◌, List, [], ◌∷◌, length, map, refl}
 use Rattle.std.proofs.Common.{sym, ap, ◌∙◌, subst, arith}
 use Rattle.std.specs.List.{AllByRecursion, list_any}
 use Rattle.std.specs.Char.{is_ascii_alphanumeric, to_ascii_lowercase}
@@ -8,9 +8,8 @@ use Rattle.std.specs.Ordering.{nat_cmp, eq_by_cmp}
 use Rattle.std.specs.FinMap.{put}
 use Rattle.std.proofs.lemmas.Bool.Decides.{nat_tests}
 use Rattle.iloc_spec_grammar.specs.Syntax.{code_x, code_u, code_t, Text, AreLengths, Unicode, Transform}
-use Rattle.iloc_spec_grammar.specs.Syntax.{IsOther, kept, AllDifferent}
-use Rattle.iloc_spec_grammar.specs.Syntax.{lower_singleton, is_other_singleton, front, blocks, IsPrivate}
-use Rattle.iloc_spec_grammar.specs.Syntax.{is_word, PrivateSubtag}
+use Rattle.iloc_spec_grammar.specs.Syntax.{IsOther, kept, AllDifferent, lower_singleton, is_other_singleton}
+use Rattle.iloc_spec_grammar.specs.Syntax.{front, blocks, IsPrivate, is_word, PrivateSubtag}
 use Rattle.iloc_spec_grammar.specs.Tree.{IsBlock, TreeBlockFault, no_singleton, duplicated, repeats_variant}
 use Rattle.iloc_spec_grammar.specs.Tree.{breaks_rule, FirstBadBlock, here, later}
 use Rattle.iloc_spec_grammar.specs.Meaning.{Extensions, Fault, InvalidSubtag, InvalidExtension}
@@ -40,20 +39,14 @@ pub blocks-from_block : (ps : List Text) → blocks (from_block ps) ≡ blocks p
 blocks-from_block [] = refl
 blocks-from_block ([] ∷ ps) = blocks-from_block ps
 blocks-from_block ((c ∷ []) ∷ ps) = refl
-blocks-from_block ((c ∷ d ∷ p) ∷ ps) =
-    ap (λ b. blocks (cond b ((c ∷ d ∷ p) ∷ ps) (from_block ps))) (two_more (length p)) ∙ blocks-from_block ps
+blocks-from_block ((c ∷ d ∷ p) ∷ ps) = grind (arith, two_more, blocks-from_block ps)
 
 block_until : (c : ℕ) (ps : List Text) → (to_ascii_lowercase c == code_x) ≡ false →
     blocks ((c ∷ []) ∷ ps) ≡ (c, front ps) ∷ blocks (from_block ps)
-block_until c ps e = ap (λ b. cond b ((c, ps) ∷ []) ((c, front ps) ∷ blocks ps)) e
-    ∙ ap (λ bs. (c, front ps) ∷ bs) (sym (blocks-from_block ps))
+block_until c ps e = grind (arith, blocks-from_block)
 
 block_of_x : (c : ℕ) (ps : List Text) → to_ascii_lowercase c ≡ code_x → blocks ((c ∷ []) ∷ ps) ≡ (c, ps) ∷ []
-block_of_x c ps e =
-    ap (λ b. cond b ((c, ps) ∷ []) ((c, front ps) ∷ blocks ps)) (same (to_ascii_lowercase c) e)
-  where
-    same : (n : ℕ) → n ≡ code_x → (n == code_x) ≡ true
-    same n e = grind (arith, nat_tests)
+block_of_x c ps e = grind arith
 
 other_than : (n k : ℕ) → n ≡ k → (k ≡ code_x → ⊥) → (n == code_x) ≡ false
 other_than n k e d = grind (arith, nat_tests)

@@ -1,12 +1,11 @@
 -- Where the others are cut, and the pieces of all parts.
-use Rattle.std.proofs.Common.{◌≡◌, ℕ, suc, ◌+◌, ◌<◌, ◌≤◌, true, false, cond, List, [], ◌∷◌, ◌++◌, take, drop}
-use Rattle.std.proofs.Common.{flat_map, nat_le, refl, sym, ap, ◌∙◌, arith, append-nil}
-use Rattle.std.proofs.lemmas.Bool.Decides.{nat_tests}
+use Rattle.std.proofs.Common.{◌≡◌, ℕ, suc, ◌+◌, ◌<◌, ◌≤◌, false, cond, List, [], ◌∷◌, ◌++◌, take}
+use Rattle.std.proofs.Common.{drop, flat_map, nat_le, refl, sym, ap, ◌∙◌, arith, append-nil}
 use Rattle.std.proofs.lemmas.List.{take-append-drop}
 use Rattle.std.proofs.lemmas.List.Concat.{flat_map-append}
 use Rattle.iloc_spec_grammar.specs.Meaning.{Extensions}
-use Rattle.iloc_spec_grammar.specs.Values.{before_above, other_spelling, transform_spelling, unicode_spelling}
-use Rattle.iloc_spec_grammar.specs.Values.{private_spelling, extensions_spelling}
+use Rattle.iloc_spec_grammar.specs.Values.{before_above, other_spelling, transform_spelling}
+use Rattle.iloc_spec_grammar.specs.Values.{unicode_spelling, private_spelling, extensions_spelling}
 use Rattle.iloc_writeable.specs.Pieces.{is_there}
 use Rattle.iloc_spec_grammar.proofs.PartTexts.{spelling_around}
 use Rattle.iloc_spec_grammar.specs.Syntax.{code_t, Text}
@@ -21,15 +20,11 @@ count (o ∷ os) = cond (nat_le o.0 code_t) (suc (count os)) 0
 
 pub count_hit : (o : ℕ × List Text) (os : Others) → code_t < o.0 → count (o ∷ os) ≡ 0
 unfolding count
-count_hit o os h =
-    let above : nat_le o.0 code_t ≡ false = grind (arith, nat_tests) in
-    ap (λ b. cond b (suc (count os)) 0) above
+count_hit o os h = grind (arith, count)
 
 pub count_miss : (o : ℕ × List Text) (os : Others) → o.0 ≤ code_t → count (o ∷ os) ≡ count os + 1
 unfolding count
-count_miss o os h = let next : suc (count os) ≡ count os + 1 = omega arith in
-    let below : nat_le o.0 code_t ≡ true = grind (arith, nat_tests) in
-    ap (λ b. cond b (suc (count os)) 0) below ∙ next
+count_miss o os h = grind (arith, count)
 
 pub count_none : count [] ≡ 0
 unfolding count
@@ -39,10 +34,7 @@ count_none = refl
 pub split_there : (bs os : Others) → before_above bs os ≡ take (count os) os ++ (bs ++ drop (count os) os)
 unfolding count
 split_there bs [] = sym (append-nil bs)
-split_there bs (o ∷ os) = elim (nat_le o.0 code_t)
-    as (λ b. cond b (o ∷ before_above bs os) (bs ++ (o ∷ os))
-    ≡ take (cond b (suc (count os)) 0) (o ∷ os) ++ (bs ++ drop (cond b (suc (count os)) 0) (o ∷ os)))
-    [ true ↦ ap (λ xs. o ∷ xs) (split_there bs os) | false ↦ refl ]
+split_there bs (o ∷ os) = grind (arith, count, split_there bs os)
 
 -- the pieces of the parts, the others in two
 pub parts_pieces : (e : Extensions) (before after : Others) (t u x : List Text) →
@@ -50,9 +42,7 @@ pub parts_pieces : (e : Extensions) (before after : Others) (t u x : List Text) 
     t ≡ transform_spelling e.transform → u ≡ unicode_spelling e.unicode → x ≡ private_spelling e.private
     → flat_map other_spelling before ++ (t ++ (u ++ (flat_map other_spelling after ++ x)))
     ≡ extensions_spelling e
-parts_pieces e before after t u x others a b c =
-    (λ k. flat_map other_spelling before ++ (a k ++ (b k ++ (flat_map other_spelling after ++ c k))))
-    ∙ sym (spelling_around e before after others)
+parts_pieces e before after t u x others a b c = grind (arith, spelling_around)
 
 -- those of the others alone, where no other part has one
 pub others_alone : (e : Extensions) → [] ≡ unicode_spelling e.unicode → [] ≡ transform_spelling e.transform →

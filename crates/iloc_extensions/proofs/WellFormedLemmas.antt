@@ -1,7 +1,6 @@
 -- What the tests say of well-formed extensions.
-use Rattle.std.proofs.Common.{◌≡◌, ◌≢◌, ◌↔◌, IsTrue, ℕ, zero, suc, ◌+◌, ◌<◌, Bool, true, false, not, ◌&&◌}
-use Rattle.std.proofs.Common.{◌==◌, List, [], ◌∷◌, length, get_or, nat_lt, refl, sym, ap, subst, ◌∙◌, arith}
-use Rattle.std.proofs.Common.{true≢false}
+use Rattle.std.proofs.Common.{◌≡◌, ◌≢◌, ◌↔◌, IsTrue, ℕ, zero, suc, ◌+◌, ◌<◌, Bool, true, false, ◌&&◌}
+use Rattle.std.proofs.Common.{List, [], ◌∷◌, length, get_or, nat_lt, refl, sym, subst, ◌∙◌, arith}
 use Rattle.std.specs.List.{AllByRecursion, IsAllAdjacentAnswer, list_all}
 use Rattle.std.specs.FinMap.{is_sorted}
 use Rattle.std.specs.FinMap.Entries.{below_all}
@@ -29,29 +28,11 @@ Others = List (ℕ × List Text)
 
 own_singleton : (o : ℕ × List Text) → has_own_place o ≡ true →
     (is_other_singleton o.0 ≡ true) × (to_ascii_lowercase o.0 ≡ o.0) × (0 < length o.1)
-own_singleton o h =
-    let first =
-    and_parts (is_other_singleton o.0) ((to_ascii_lowercase o.0 == o.0) && nat_lt 0 (length o.1)) h in
-    let second = and_parts (to_ascii_lowercase o.0 == o.0) (nat_lt 0 (length o.1)) first.1 in
-    (first.0, same second.0, some second.1)
-  where
-    same : (to_ascii_lowercase o.0 == o.0) ≡ true → to_ascii_lowercase o.0 ≡ o.0
-    same e = grind (arith, nat_tests)
-
-    some : nat_lt 0 (length o.1) ≡ true → 0 < length o.1
-    some e = grind (arith, nat_tests)
+own_singleton o h = grind (arith, and_parts)
 
 place_met : (o : ℕ × List Text) → is_other_singleton o.0 ≡ true → to_ascii_lowercase o.0 ≡ o.0 →
     0 < length o.1 → has_own_place o ≡ true
-place_met o a b n =
-    and_from (is_other_singleton o.0) ((to_ascii_lowercase o.0 == o.0) && nat_lt 0 (length o.1)) a
-    (and_from (to_ascii_lowercase o.0 == o.0) (nat_lt 0 (length o.1)) (same b) (some n))
-  where
-    same : to_ascii_lowercase o.0 ≡ o.0 → (to_ascii_lowercase o.0 == o.0) ≡ true
-    same e = grind (arith, nat_tests)
-
-    some : 0 < length o.1 → nat_lt 0 (length o.1) ≡ true
-    some e = grind (arith, nat_tests)
+place_met o a b n = grind (arith, and_from)
 
 places_met : (os : Others) →
     AllByRecursion (λ o. (is_other_singleton o.0 ≡ true) × (to_ascii_lowercase o.0 ≡ o.0)) os →
@@ -60,18 +41,10 @@ places_met [] s n = refl
 places_met (o ∷ os) s n = and_from _ _ (place_met o s.0.0 s.0.1 n.0) (places_met os s.1 n.1)
 
 plain_shown : (w : Text) → is_plain w ≡ true → (is_true w ≡ false) × (length w ≢ 2)
-plain_shown w h =
-    let parts = and_parts _ _ h in
-    (not-true (is_true w) parts.0, λ e. true≢false (sym parts.1 ∙ ap not (two e)))
-  where
-    two : length w ≡ 2 → (length w == 2) ≡ true
-    two e = grind (arith, nat_tests)
+plain_shown w h = grind (arith, and_parts, not-true)
 
 plain_met : (w : Text) → is_true w ≡ false → length w ≢ 2 → is_plain w ≡ true
-plain_met w e n = and_from _ _ (ap not e) (ap not (no_two n))
-  where
-    no_two : length w ≢ 2 → (length w == 2) ≡ false
-    no_two n = grind (arith, nat_tests)
+plain_met w e n = grind (arith, and_from)
 
 abbrev Plain : Text → Type 0
 Plain w = (is_true w ≡ false) × (length w ≢ 2)
@@ -117,7 +90,7 @@ Adjacent os =
 
 next_of : (o : ℕ × List Text) (os : Others) (k : ℕ) (d : ℕ × List Text) →
     get_or (o ∷ os) (k + 1) d ≡ get_or os k d
-next_of o os k d = let next : k + 1 ≡ suc k = omega arith in ap (λ n. get_or (o ∷ os) n d) next
+next_of o os k d = grind arith
 
 later : (o : ℕ × List Text) (os : Others) → Adjacent (o ∷ os) → Adjacent os
 later o os h k d l = subst (λ x. x.0 < (get_or os (k + 1) d).0) (next_of o os k d) (subst
@@ -136,7 +109,7 @@ ascending (o ∷ p ∷ os) h =
 adjacent : (os : Others) → is_sorted nat_cmp os ≡ true → Adjacent os
 adjacent [] h k d l = absurd (omega (arith, l))
 adjacent (o ∷ []) h k d l = absurd (omega (arith, l))
-adjacent (o ∷ p ∷ os) h zero d l = nat_lt_from o.0 p.0 (and_parts _ _ (and_parts _ _ h).0).0
+adjacent (o ∷ p ∷ os) h zero d l = grind (arith, nat_lt_from, and_parts)
 adjacent (o ∷ p ∷ os) h (suc k) d l =
     let steps : k + 1 ≡ suc k = omega arith in
     subst (λ n. (get_or (p ∷ os) k d).0 < (get_or (o ∷ p ∷ os) (n + 1) d).0) steps
@@ -145,10 +118,7 @@ adjacent (o ∷ p ∷ os) h (suc k) d l =
 
 pub ascends : (os : Others) (r : Bool) → IsAllAdjacentAnswer (λ x y b. b ≡ nat_lt x.0 y.0) os r →
     r ≡ is_sorted nat_cmp os
-ascends os true h = sym (ascending os (λ k d l. below (h k d l)))
-  where
-    below : {x y : ℕ} → true ≡ nat_lt x y → x < y
-    below e = grind (arith, nat_tests)
+ascends os true h = grind (arith, ascending)
 ascends os false h = go (is_sorted nat_cmp os) refl
   where
     not_below : {x y : ℕ} → false ≡ nat_lt x y → x < y → ⊥
