@@ -1,5 +1,5 @@
 //! The keywords of a unicode extension.
-ghost use Rattle.std.specs.Prelude.{◌≡◌, ⊤, ◌<◌, ◌+◌, ◌==◌, ◌↔◌, ℕ, List, [], ◌∷◌, ◌++◌, true, length, reverse, IsTrue, OnOk, OnErr, IfOk, IsOk, if◌then◌else◌};
+ghost use Rattle.std.specs.Prelude.{◌≡◌, ⊤, ◌<◌, ◌+◌, ◌==◌, ◌↔◌, ℕ, List, [], ◌∷◌, ◌++◌, true, false, length, reverse, IsTrue, OnOk, OnErr, IfOk, IsOk, if◌then◌else◌};
 ghost use Rattle.std.specs.Borrow.{sem};
 ghost use Rattle.std.specs.Fn.{CalledAt};
 ghost use Rattle.std.specs.FinMap.{find, put};
@@ -284,6 +284,21 @@ impl Keywords {
         ensures { self.new ≡ (key, value) ∷ [] }
     {
         *self = Keywords::new_single(key, value);
+    }
+
+    // Copies the only pair over another map, if its value is one subtag. Else it returns `false`, and nothing changes.
+    #[inline(always)]
+    fn copy_single(&self, to: &mut Keywords) -> bool
+        ensures copied { IsTrue result → to.new ≡ self.now }
+        ensures kept { result ≡ false → to.new ≡ to.old }
+    {
+        if let [(key, value)] = self.as_slice() {
+            if let Some(value) = copy_of_single(value) {
+                to.put_first(*key, value);
+                return true;
+            }
+        }
+        false
     }
 
     // Copies the pairs over an empty map. It stands apart, so that a key with one subtag pays nothing for it. Each case
@@ -579,13 +594,10 @@ impl Copied for Keywords {
 
     #[inline(always)]
     fn copied<C: Copying>(&self, copying: C) -> Result<Self, AllocError> {
-        if let [(key, value)] = self.as_slice() {
-            if let Some(value) = copy_of_single(value) {
-                return Ok(Keywords::new_single(*key, value));
-            }
-        }
         let mut copy = Keywords::new();
-        self.copy_onto(copying, &mut copy)?;
+        if !self.copy_single(&mut copy) {
+            self.copy_onto(copying, &mut copy)?;
+        }
         Ok(copy)
     }
 }

@@ -64,6 +64,33 @@ fn taken_and_left<S: Store<u16, u16>>(
     Ok((taken, left, sum, store.lm_pairs().len()))
 }
 
+/// How many pairs are taken with room for two more, and how many are left.
+fn taken_with_room<S: Store<u16, u16>>(
+    alloc: Global,
+    store: &mut S,
+) -> Result<(usize, usize), AllocError> {
+    let all = store.lm_take_with_room(alloc, 2)?;
+    Ok((all.len(), store.lm_pairs().len()))
+}
+
+#[test]
+fn a_short_list_taken_with_room(rt: HostRuntime) -> Result<(), Fail> {
+    let mut list = ShortBoxSlice::new_single(7u16);
+    let all = list.take_with_room(rt.alloc(), 2)?;
+    assert_eq!(rt; all.len(), 1);
+    assert!(rt; list.is_empty());
+    Ok(())
+}
+
+#[test]
+fn stores_taken_with_room(rt: HostRuntime) -> Result<(), Fail> {
+    let mut short: ShortBoxSlice<(u16, u16)> = three(rt.alloc())?;
+    assert_eq!(rt; taken_with_room(rt.alloc(), &mut short), Ok((3, 0)));
+    let mut vec: Vec<(u16, u16)> = three(rt.alloc())?;
+    assert_eq!(rt; taken_with_room(rt.alloc(), &mut vec), Ok((3, 0)));
+    Ok(())
+}
+
 #[test]
 fn a_store_of_one_pair_in_place(rt: HostRuntime) -> Result<(), Fail> {
     let mut store: ShortBoxSlice<(u16, u16)> = three(rt.alloc())?;
