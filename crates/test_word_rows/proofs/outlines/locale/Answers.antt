@@ -6,7 +6,7 @@ use Rattle.test_word_rows.proofs.outlines.locale.Goals as goal
 
 pub normal-requires-clause-gives : goal.normal-requires-clause-gives
 normal-requires-clause-gives c =
-    let h = c.in-Normal.ensures in
+    let h = c.in-Normal.ensures.outlined in
     record {
       normal = text h.0;
       gives = h.2;
