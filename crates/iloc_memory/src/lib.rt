@@ -9,12 +9,12 @@
 //! It promises: a request that is granted does what the same call of `std` does, and one that is refused leaves the list
 //! as it was and makes `refused` true. At an `Ample` memory nothing is refused.
 //!
-//! It stands on `std` alone, and on reading three lines: that the three requests of `impl Memory for Global` pass on the
-//! answer of `std`, since `std` states nothing of a refusal. Whether `std` asked the heap is the word of `std`: a `Vec`
+//! It stands on `std` alone, and on reading three lines: that the requests of `Global`, two for lists and one for trees, pass
+//! on the answer of `std`, since `std` states nothing of a refusal. Whether `std` asked the heap is the word of `std`: a `Vec`
 //! also refuses without asking if its block would be larger than `isize::MAX` bytes. Everything else is proved.
 #![tactic(auto)]
 
-ghost use Rattle.std.specs.Prelude.{◌≡◌, ◌+◌, ◌≤◌, ◌++◌, ◌∷◌, [], ℕ, ⊤, length, insert, OnOk, OnErr, IfOk};
+ghost use Rattle.std.specs.Prelude.{◌≡◌, ◌+◌, ◌≤◌, ◌++◌, ◌∷◌, [], ℕ, ⊤, length, take, insert, OnOk, OnErr, IfOk};
 ghost use Rattle.std.specs.Vec.{vec_len, vec_capacity};
 ghost use Rattle.std.specs.String.{string_bytes, string_len, string_capacity};
 ghost use Rattle.std.specs.BTreeMap.{insert_entry};
@@ -46,7 +46,10 @@ pub trait Memory: Copy {
         ensures len { vec_len list.new ≡ vec_len list.old }
         ensures room { OnOk result (vec_len list.new + additional ≤ vec_capacity list.new) }
         ensures refusal { OnErr result (refused (vec_len list.old + additional)) };
+}
 
+/// A `Memory` that gives room for the pairs of trees too.
+pub trait Trees: Memory {
     /// An empty tree. It asks for no room.
     fn empty_tree<K: Ord, V>(self) -> BTreeMap<K, V>
         ensures { result.entries ≡ [] };
@@ -54,13 +57,13 @@ pub trait Memory: Copy {
     /// Puts a pair into a tree, in place of one with its key. Refusal: `AllocError`, and the tree is as before.
     fn insert_in_tree<K: Ord + Drop, V: Drop>(
         self,
-        tree: &mut BTreeMap<K, V>,
+        map: &mut BTreeMap<K, V>,
         key: K,
         value: V,
     ) -> Result<Option<V>, AllocError>
-        ensures ok { OnOk result (tree.new.entries ≡ insert_entry K.cmp tree.old.entries key value) }
-        ensures err { OnErr result (tree.new.entries ≡ tree.old.entries) }
-        ensures refusal { OnErr result (refused 1) };
+        ensures ok { OnOk result (map.new.entries ≡ insert_entry K.cmp map.old.entries key value) }
+        ensures err { OnErr result (map.new.entries ≡ map.old.entries) }
+        ensures refusal { OnErr result (Self.refused 1) };
 }
 
 /// Memory that refuses nothing. Code that is proved for every memory is so for such a one, where it never runs out.
@@ -87,7 +90,9 @@ impl Memory for Global {
     fn reserve<T>(self, list: &mut Vec<T>, additional: usize) -> Result<(), AllocError> {
         list.reserve(additional)
     }
+}
 
+impl Trees for Global {
     #[inline(always)]
     fn empty_tree<K: Ord, V>(self) -> BTreeMap<K, V> {
         BTreeMap::new(self)
@@ -96,11 +101,11 @@ impl Memory for Global {
     #[inline(always)]
     fn insert_in_tree<K: Ord + Drop, V: Drop>(
         self,
-        tree: &mut BTreeMap<K, V>,
+        map: &mut BTreeMap<K, V>,
         key: K,
         value: V,
     ) -> Result<Option<V>, AllocError> {
-        Ok(tree.insert(key, value)?)
+        Ok(map.insert(key, value)?)
     }
 }
 
@@ -114,6 +119,31 @@ pub fn push<M: Memory, T: Drop>(memory: M, list: &mut Vec<T>, item: T) -> Result
 {
     memory.reserve(list, 1)?;
     list.push_reserved(item);
+    Ok(())
+}
+
+/// Makes the list so long, if it is shorter: what it had, and copies of an item behind. Refusal: `AllocError`, and the list
+/// is as before.
+#[inline(always)]
+pub fn lengthen<M: Memory, T: Copy>(
+    memory: M,
+    list: &mut Vec<T>,
+    len: usize,
+    item: T,
+) -> Result<(), AllocError>
+    ensures front { OnOk result (take (length list.old.items) list.new.items ≡ list.old.items) }
+    ensures len { OnOk result (len ≤ length list.new.items) }
+    ensures err { OnErr result (list.new.items ≡ list.old.items) }
+    ensures out_of_memory { OnErr result (RefusedWithin M.refused len) }
+{
+    let held = list.len();
+    if held >= len {
+        return Ok(());
+    }
+    memory.reserve(list, len - held)?;
+    let Ok(()) = list.resize_with(len, || item) else {
+        unreachable!();
+    };
     Ok(())
 }
 

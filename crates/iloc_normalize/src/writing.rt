@@ -11,7 +11,7 @@ ghost use Rattle.iloc_normalize.specs.declared.Mode.TheVariants as modes;
 use crate::Mode;
 use crate::data_writing::write_data;
 use crate::leads::Lead;
-use iloc_memory::Memory;
+use iloc_memory::Trees;
 use iloc_outline::growth::{Growing, Growth, InPlace};
 use iloc_outline::outline::{Outlined, outline_identifier, outline_locale};
 use iloc_outline::printing::copy_outline;
@@ -72,7 +72,7 @@ impl Written {
 /// Writes the normal text in the mode of a text, of which the beginning shows this (`leads`). Up to sixteen bytes more are
 /// stored behind what is written. `Nothing` says that memory was refused.
 #[inline(always)]
-pub fn write_normal<M: Memory>(
+pub fn write_normal<M: Trees>(
     memory: M,
     mode: Mode,
     lead: Lead,

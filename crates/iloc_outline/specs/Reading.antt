@@ -15,6 +15,7 @@ use Rattle.iloc_pieces.specs.Cursor.{IsLater, IsPast, IsSpanned, piece_left, pie
 use Rattle.iloc_pieces.specs.Words.{word_number}
 use Rattle.iloc_outline.specs.Parts.{Part, printed_part, word_part, field_part, in_order, block_parts}
 use Rattle.iloc_outline.specs.Spans.{AddsParts}
+use Rattle.iloc_spans.specs.Inserting.{IsTried}
 use Rattle.iloc_spans.specs.Spans.{held_spans}
 use Rattle.iloc_pieces.specs.declared.place.Cursor.{Cursor}
 use Rattle.iloc_outline.specs.declared.reading.Found.{Found}
@@ -42,6 +43,10 @@ IsTooMuch old n = 64 < length (held_spans old) + n
 -- room was refused for the spans that there are, and at most so many more
 abbrev pub IsRoomRefused : (ℕ → Type 0) → Spans → ℕ → Type 0
 IsRoomRefused Refused old n = RefusedWithin Refused (length (held_spans old) + n)
+
+-- where each place is tried for a span of this role, room for one more was refused
+abbrev pub IsRefusedIfTried : (ℕ → Type 0) → Role → Spans → Type 0
+IsRefusedIfTried Refused role old = IsTried role → IsRoomRefused Refused old 1
 
 -- Variants and attributes.
 

@@ -3,14 +3,14 @@ ghost use Rattle.std.specs.Prelude.{◌≡◌, ◌≤◌, ◌∷◌, ◌++◌, �
 ghost use Rattle.iloc_pieces.specs.Cursor.{IsLater, pieces_left};
 ghost use Rattle.iloc_pieces.specs.declared.place.Cursor.{Cursor};
 ghost use Rattle.iloc_outline.specs.Gathering.{Walks};
-ghost use Rattle.iloc_spans.specs.Inserting.{IsInserted, IsTried};
-ghost use Rattle.iloc_outline.specs.Reading.{AreWordsRead, IsOfWord, IsRoomRefused};
+ghost use Rattle.iloc_spans.specs.Inserting.{IsInserted};
+ghost use Rattle.iloc_outline.specs.Reading.{AreWordsRead, IsOfWord, IsRefusedIfTried, IsRoomRefused};
 ghost use Rattle.iloc_spans.specs.Spans.{held_spans};
 ghost use Rattle.iloc_spans.specs.declared.spans.Spans.{Spans};
 
 use crate::reading::Found;
 use crate::words::read_more_words;
-use iloc_memory::Memory;
+use iloc_memory::Trees;
 use iloc_pieces::cursor::Cursor;
 use iloc_spans::inserting::{Inserted, insert_more};
 use iloc_spans::span::{Role, Span};
@@ -33,8 +33,8 @@ pub trait Growth: Copy {
     fn insert(self, spans: &mut Spans, from: usize, span: Span) -> Inserted
         requires from { from ≤ spans.old.count }
         requires many { 64 ≤ spans.old.count }
-        ensures inserted { IsInserted from span (held_spans spans.old) (held_spans spans.new) result }
-        ensures refused { result ≡ Inserted.Full → IsTried span.role → IsRoomRefused refused spans.old 1 };
+        ensures put { IsInserted from span (held_spans spans.old) (held_spans spans.new) result }
+        ensures refused { result ≡ Inserted.Full → IsRefusedIfTried refused span.role spans.old };
 
     /// Reads the rest of the words of this role, of which those from `from` on were put in order.
     fn read_words(
@@ -104,12 +104,12 @@ impl Growth for InPlace {
 
 /// The room grows, until this memory is refused.
 #[derive(Clone, Copy)]
-pub struct Growing<M: Memory> {
+pub struct Growing<M: Trees> {
     /// Where room is asked for.
     pub memory: M,
 }
 
-impl<M: Memory> Growth for Growing<M> {
+impl<M: Trees> Growth for Growing<M> {
     ghost refused = { M.refused };
 
     #[inline(always)]

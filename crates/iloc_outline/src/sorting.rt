@@ -7,9 +7,9 @@ ghost use Rattle.iloc_spec_grammar.specs.Syntax.{Text, IsAmong};
 ghost use Rattle.iloc_outline.specs.Parts.{Part};
 ghost use Rattle.iloc_outline.specs.Spans.{Spell};
 ghost use Rattle.iloc_outline.specs.Groups.{AreGroups, is_greater, parts_in};
-ghost use Rattle.iloc_outline.specs.Reading.{IsRoomRefused};
+ghost use Rattle.iloc_outline.specs.Reading.{IsRefusedIfTried, IsRoomRefused};
 ghost use Rattle.iloc_spans.specs.Spans.{held_spans};
-ghost use Rattle.iloc_spans.specs.Inserting.{IsInserted, IsPutFrom, IsTried};
+ghost use Rattle.iloc_spans.specs.Inserting.{IsInserted, IsPutFrom};
 
 use crate::growth::{Growth, put};
 use iloc_spans::inserting::{Inserted, insert_in_place};
@@ -31,7 +31,7 @@ pub fn put_from<G: Growth>(
     ensures put { IsPutFrom from span (held_spans spans.old) (held_spans spans.new)
         last.old last.new in_order.old in_order.new result }
     ensures full { result ≡ Inserted.Full → 64 ≤ length (held_spans spans.old) }
-    ensures refused { result ≡ Inserted.Full → IsTried span.role → IsRoomRefused G.refused spans.old 1 }
+    ensures refused { result ≡ Inserted.Full → IsRefusedIfTried G.refused span.role spans.old }
 {
     if span.edited {
         *in_order = false;
@@ -54,7 +54,7 @@ pub fn insert_from<G: Growth>(growth: G, spans: &mut Spans, from: usize, span: S
     requires { from ≤ spans.old.count }
     ensures inserted { IsInserted from span (held_spans spans.old) (held_spans spans.new) result }
     ensures full { result ≡ Inserted.Full → 64 ≤ length (held_spans spans.old) }
-    ensures refused { result ≡ Inserted.Full → IsTried span.role → IsRoomRefused G.refused spans.old 1 }
+    ensures refused { result ≡ Inserted.Full → IsRefusedIfTried G.refused span.role spans.old }
 {
     if spans.count >= MOST {
         return growth.insert(spans, from, span);

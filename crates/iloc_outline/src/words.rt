@@ -12,7 +12,7 @@ ghost use Rattle.iloc_pieces.specs.declared.place.Cursor.{Cursor};
 use crate::growth::Growth;
 use crate::reading::Found;
 use crate::sorting::put_from;
-use iloc_memory::Memory;
+use iloc_memory::{Memory, Trees};
 use iloc_pieces::cursor::{Cursor, advance, is_attribute, is_last, is_variant, word_number};
 use iloc_spans::group::Group;
 use iloc_spans::inserting::Inserted;
@@ -87,7 +87,7 @@ pub fn read_words<G: Growth>(
 /// Reads the rest of them where there is no room in place: all of the group, which began at `from` and of which so many
 /// were read, is put in order by a tree.
 #[inline(never)]
-pub fn read_more_words<M: Memory>(
+pub fn read_more_words<M: Trees>(
     memory: M,
     role: Role,
     cursor: &mut Cursor<'_>,

@@ -7,7 +7,7 @@ ghost use Rattle.iloc_spans.specs.declared.span.Span.{Span};
 use crate::inserting::Inserted;
 use crate::span::Span;
 use crate::spans::Spans;
-use iloc_memory::Memory;
+use iloc_memory::{Memory, Trees};
 use std::collections::BTreeMap;
 
 /// Spans in the order of their numbers, of which the first of equals counts.
@@ -23,7 +23,7 @@ impl Group {
     ghost use Rattle.iloc_spans.specs.Spans.{held_spans};
 
     /// None. It allocates nothing.
-    pub fn new<M: Memory>(memory: M) -> Group
+    pub fn new<M: Trees>(memory: M) -> Group
         ensures { group_spans result ≡ [] }
     {
         Group {
@@ -32,7 +32,7 @@ impl Group {
     }
 
     /// Puts a span where it belongs, unless one of its number is there. `Full` says that memory was refused.
-    pub fn put<M: Memory>(&mut self, memory: M, span: Span) -> Inserted
+    pub fn put<M: Trees>(&mut self, memory: M, span: Span) -> Inserted
         ensures put { IsGrouped span (group_spans self.old) (group_spans self.new) result }
         ensures few { length (group_spans self.new) ≤ length (group_spans self.old) + 1 }
         ensures refused { result ≡ Inserted.Full → RefusedWithin M.refused 1 }

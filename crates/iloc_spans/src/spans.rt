@@ -7,7 +7,7 @@ use crate::group::Group;
 use crate::inserting::{Inserted, turn_in_place};
 use crate::more::{self, More};
 use crate::span::{NO_SPANS, Span};
-use iloc_memory::Memory;
+use iloc_memory::{Memory, Trees};
 
 /// How many spans there is room for in place.
 pub const MOST: usize = 64;
@@ -126,7 +126,7 @@ impl Spans {
     }
 
     /// Takes the spans from `from` on into a group. `None` if memory is refused.
-    pub fn take_from<M: Memory>(&mut self, memory: M, from: usize) -> Option<Group>
+    pub fn take_from<M: Trees>(&mut self, memory: M, from: usize) -> Option<Group>
         requires { from ≤ self.old.count }
         ensures taken { IfSome result (λ g.
             (group_spans g ≡ spans_in_order (drop from (held_spans self.old)))

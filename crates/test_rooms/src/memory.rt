@@ -3,7 +3,7 @@ ghost use Rattle.std.specs.Prelude.{⊤};
 
 use iloc_langid::LanguageIdentifier;
 use iloc_locale::Locale;
-use iloc_memory::Memory;
+use iloc_memory::{Memory, Trees};
 use iloc_shortvec::{ShortBoxSlice, ShortWords};
 use iloc_subtags::{ParseError, Subtag, Variant};
 use iloc_word_list::{Value, Variants};
@@ -38,21 +38,23 @@ impl Memory for UpTo {
         }
         self.heap.reserve(list, additional)
     }
+}
 
+impl Trees for UpTo {
     fn empty_tree<K: Ord, V>(self) -> BTreeMap<K, V> {
         BTreeMap::new(self.heap)
     }
 
     fn insert_in_tree<K: Ord + Drop, V: Drop>(
         self,
-        tree: &mut BTreeMap<K, V>,
+        map: &mut BTreeMap<K, V>,
         key: K,
         value: V,
     ) -> Result<Option<V>, AllocError> {
         if self.most == 0 {
             return Err(AllocError);
         }
-        self.heap.insert_in_tree(tree, key, value)
+        self.heap.insert_in_tree(map, key, value)
     }
 }
 

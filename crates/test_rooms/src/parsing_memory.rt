@@ -16,7 +16,6 @@ use iloc_unicode::{Attributes, Keywords, Unicode};
 use iloc_word_list::Value as Subtags;
 use iloc_writeable::{Writeable, to_string_or_borrow_in};
 use std::alloc::{AllocError, Global};
-use std::collections::BTreeMap;
 use std::process::Abort;
 use std::test::Fail;
 
@@ -280,22 +279,6 @@ impl<'a, R: Abort> Memory for Endless<'a, R> {
     fn reserve<T>(self, list: &mut Vec<T>, additional: usize) -> Result<(), AllocError> {
         match self.heap.reserve(list, additional) {
             Ok(()) => Ok(()),
-            Err(_) => panic!(self.rt; "memory was refused"),
-        }
-    }
-
-    fn empty_tree<K: Ord, V>(self) -> BTreeMap<K, V> {
-        BTreeMap::new(self.heap)
-    }
-
-    fn insert_in_tree<K: Ord + Drop, V: Drop>(
-        self,
-        tree: &mut BTreeMap<K, V>,
-        key: K,
-        value: V,
-    ) -> Result<Option<V>, AllocError> {
-        match self.heap.insert_in_tree(tree, key, value) {
-            Ok(old) => Ok(old),
             Err(_) => panic!(self.rt; "memory was refused"),
         }
     }
