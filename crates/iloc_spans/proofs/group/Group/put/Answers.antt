@@ -41,7 +41,7 @@ returns-in-Ok-clause-put g c = λ ss is.
 pub returns-in-Ok-clause-few : goal.returns-in-Ok-clause-few
 returns-in-Ok-clause-few g c =
     let old = c.args.self.now.tree.entries in
-    let new = c.insert_in_tree.new.tree.entries in
+    let new = c.insert_in_tree.new.map.entries in
     omega (
       arith,
       length-map new (λ e. e.1),
