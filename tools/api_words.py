@@ -209,7 +209,7 @@ OWN = {
         "writeable::IoSink writeable::write_to_io shortvec::ShortWords shortvec::ShortWordsIntoIter litemap::Probe "
         "litemap::place subtags::Word subtags::WordKind subtags::WordOf subtags::is_strictly_ascending faults::Fault "
         "faults::fault_of faults::Mode faults::expected faults::Expected faults::PieceKind faults::hint faults::Hint matching::matches cleaning::clean_line cleaning::without_mark langid::equality locale::equality locale::OrderedLocale "
-        "memory::Memory memory::Ample memory::Copied memory::Copying memory::FromMemory memory::FromOwn "
+        "memory::Memory memory::Trees memory::Ample memory::Copied memory::Copying memory::FromMemory memory::FromOwn "
         "litemap::GrowingStore litemap::CopyingStore locale::ample_memory locale::ample_normalizing "
         "locale::ample_printing writeable::to_string_or_borrow_in "
         "locale::every_locale_is_a_value json::JsonError json::TextValue"

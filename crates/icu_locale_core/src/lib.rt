@@ -56,7 +56,7 @@ mod together;
 /// What lists, copies and parsers ask for room, and what is known if it is refused. Programs pass `alloc`, the heap.
 pub mod memory {
     pub use iloc_copying::{Copied, Copying, FromMemory, FromOwn};
-    pub use iloc_memory::{Ample, Memory};
+    pub use iloc_memory::{Ample, Memory, Trees};
 }
 
 /// Short ASCII texts.
