@@ -1,5 +1,4 @@
 -- Worked examples, computed by the plain program.
-use Rattle.std.proofs.lemmas.Bool.{both_ways}
 use Rattle.std.proofs.Common.{◌≡◌, [], ◌∷◌, refl, codes, Result, Ok, Err, arith, None}
 use Rattle.iloc_spec_grammar.specs.Syntax.{
   code_t,
@@ -120,25 +119,7 @@ one_true_of_tree = TreeTextStep.rewritten
           (code_t, transform (record { id = None; fields = (codes "m0", codes "true" ∷ []) ∷ [] })) ∷ [];
       private = None;
     }}
-    (record {
-      id = record {
-        words = record { language = refl; script = tt; region = tt; variants = tt };
-        different = tt;
-      };
-      extensions = (
-        (
-          refl,
-          record {
-            id = tt;
-            fields = ((refl, (refl, (refl, tt)), omega arith), tt);
-            nonempty = λ e. omega arith;
-          },
-        ),
-        tt,
-      );
-      different = (both_ways _ refl, tt);
-      private = tt;
-    })
+    (grind arith)
     refl
     (Step.inside Trues TreeIdentifierStep.same (
       (
