@@ -176,26 +176,7 @@ keyword_words (Some w) h = grind (arith, cond_both, read_is_long)
 pub small_value_of_data : {T : ℕ → Bool} (d : DataLocale) → IsDataLocale T d →
     IsSmallValue T (small_of_data d)
 small_value_of_data d h =
-    let parts = parts_are (subdivision_keyword d) (keyword_words d.subdivision h.subdivision) in
-    record {
-      language = h.language;
-      script = h.script;
-      region = h.region;
-      variant = h.variant;
-      key = parts.0;
-      value = parts.1;
-    }
-  where
-    parts_are : (o : Option Text) → IsKeywordOf o →
-        IfSome (keyword_by o) (λ k. IsNormal UnicodeKey k.0)
-        × IfSome (keyword_by o) (λ k. IfSome k.1 (λ w. IsNormal Attribute w × (is_true w ≡ false)))
-    parts_are None k = (tt, tt)
-    parts_are (Some w) k = (
-      sd_key,
-      cond_both (is_true (lower w)) _ _
-          (λ ws. IfSome (first_item ws) (λ w. IsNormal Attribute w × (is_true w ≡ false))) (λ e. tt)
-          (λ e. ((is_word-lower Attribute w ∙ attribute_from w k.0 k.1, lower-lower w), e)),
-    )
+    grind (arith, keyword_words, sd_key, cond_both, is_word-lower, attribute_from, lower-lower)
 
 -- the locale that a data locale becomes is a value, and well-formed
 pub locale_of_data_is_value : {T : ℕ → Bool} (d : DataLocale) → IsDataLocale T d →
@@ -235,26 +216,13 @@ parts_read : (region : Option Text) (k : Option (Text × Option Text)) →
     IfSome (small_part region k) (λ part. IfSome part IsReadPart)
 parts_read None None h v = tt
 parts_read (Some r) None h v = whole_part r h
-parts_read region (Some (k, o)) h v = elim (is_same k sd)
-    as (λ b.
-    IfSome (cond b (option_map (λ s. Some (agreed region s)) (option_and_then named_subdivision o)) None)
-    (λ part. IfSome part IsReadPart)) [ true ↦ at_value o v | false ↦ tt ]
-  where
-    at_value : (o : Option Text) → IfSome o (λ w. IsNormal Attribute w × (is_true w ≡ false)) →
-        IfSome (option_map (λ s. Some (agreed region s)) (option_and_then named_subdivision o))
-        (λ part. IfSome part IsReadPart)
-    at_value None v = tt
-    at_value (Some w) v = elim (subdivision w) as (λ r. subdivision w ≡ r →
-        IfSome (option_map (λ s. Some (agreed region s)) (result_ok r)) (λ part. IfSome part IsReadPart)) [
-          | Err f ↦ λ e. tt
-          | Ok s ↦ λ e. agreed_part region s h
-              (read_is_subdivision w s e, λ k. ap is_true (text_of_read w s e ∙ v.0.1) ∙ v.1)
-        ] refl
+parts_read region (Some (k, o)) h v =
+    grind (arith, sd, option_and_then, agreed_part, read_is_subdivision, text_of_read)
 
 read_made : {T : ℕ → Bool} (t : Text) (d : DataLocale) (h : DataMeans T t d) → MadeOf h.small.id d
 read_made t d h = let v = read_is_small_value t h.small h.is_small in
     from (small_part h.small.id.region h.small.keyword)
-    (parts_read h.small.id.region h.small.keyword v.region v.value) h.means
+    (search parts_read) h.means
   where
     from : (o : Option (Option Subdivision)) → IfSome o (λ part. IfSome part IsReadPart) →
         option_map (λ part. made_of h.small.id.language h.small.id.script part h.small.id.variant) o

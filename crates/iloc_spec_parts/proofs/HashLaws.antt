@@ -53,9 +53,12 @@ before_padding : (w : Text) (n : ℕ) → list_all (λ b. nat_lt 0 b) w ≡ true
     before_zero (w ++ replicate n 0) ≡ w
 before_padding [] n h = before_zeros n
 before_padding (c ∷ w) n h =
-    let parts = and_parts (nat_lt 0 c) (list_all (λ b. nat_lt 0 b) w) h in
-    let other : (c == 0) ≡ false = grind (arith, nat_tests) in
-    rw other (ap (λ l. c ∷ l) (before_padding w n parts.1))
+    grind (
+      arith,
+      and_parts,
+      nat_tests,
+      before_padding w n (and_parts (nat_lt 0 c) (list_all (λ b. nat_lt 0 b) w) h).1,
+    )
 
 padded_back : (w : Text) → is_short_text w ≡ true → before_zero (padded w) ≡ w
 padded_back w h = grind (arith, before_padding, and_parts)
@@ -83,31 +86,16 @@ pub word_few : (w : Text) → length (word_fed w) ≤ 2
 word_few w = fed_few (is_short_text w) w
 
 pub word_tells : Tells word_fed
-word_tells = record {
-  some = λ w. fed_some (is_short_text w) w;
-  told = λ v w us vs h k e. fed_told (is_short_text v) (is_short_text w) v w us vs refl refl e;
-}
+word_tells = search (fed_some, fed_told)
 
 byte_tells : Tells u8
-byte_tells = record {
-  some = λ b. omega arith;
-  told = λ b c us vs h k e. (cc, cc);
-}
+byte_tells = grind arith
 
 -- one part after another
 
 module _ {X Y : Type 0} {f : X → HashWrites} {g : Y → HashWrites} (a : Tells f) (b : Tells g) where
   pub both_tell : Tells (λ (p : X × Y). f p.0 ++ g p.1)
-  both_tell = record {
-    some = λ p. let l = length-append (f p.0) (g p.1) in let s = a.some p.0 in omega arith;
-    told = λ p q us vs h k e.
-        let l = length-append (f p.0) (g p.1) in
-        let m = length-append (f q.0) (g q.1) in
-        let first = a.told p.0 q.0 (g p.1 ++ us) (g q.1 ++ vs) (omega arith) (omega arith)
-        (sym (append_assoc (f p.0) (g p.1) us) ∙ e ∙ append_assoc (f q.0) (g q.1) vs) in
-        let second = b.told p.1 q.1 us vs (omega arith) (omega arith) first.1 in
-        ((λ i. (first.0 i, second.0 i)), second.1);
-  }
+  both_tell = grind (arith, length-append, append_assoc)
 
 -- a value that is kept as another
 pub through : {X Y : Type 0} (to : X → Y) (from : Y → X) → ((x : X) → from (to x) ≡ x) →
@@ -123,19 +111,7 @@ length_told m n h k e = grind (arith, from_le_bytes-to_le_bytes_8)
 module _ {X : Type 0} {f : X → HashWrites} (a : Tells f) where
   pub option_tells : Tells (option f)
   unfolding le_bytes
-  option_tells = record { some = λ o. some_writes o; told = λ o p us vs h k e. option_told o p us vs h k e }
-    where
-      some_writes : (o : Option X) → 0 < length (option f o)
-      some_writes None = omega arith
-      some_writes (Some x) = omega arith
-
-      option_told : (o p : Option X) (us vs : HashWrites) → length (option f o) < 2 ^ 64 →
-          length (option f p) < 2 ^ 64 → option f o ++ us ≡ option f p ++ vs → (o ≡ p) × (us ≡ vs)
-      option_told None None us vs h k e = (refl, cc)
-      option_told None (Some y) us vs h k e = absurd (cc)
-      option_told (Some x) None us vs h k e = absurd (cc)
-      option_told (Some x) (Some y) us vs h k e =
-          let t = a.told x y us vs (omega arith) (omega arith) (cc) in (ap Some t.0, t.1)
+  option_tells = grind arith
 
   -- a list
 
@@ -153,20 +129,11 @@ module _ {X : Type 0} {f : X → HashWrites} (a : Tells f) where
       let m = length-append (f x) (flat_map f xs) in
       let n = length-append (f y) (flat_map f ys) in
       let first = a.told x y (flat_map f xs ++ us) (flat_map f ys ++ vs) (omega arith) (omega arith)
-      (sym (append_assoc (f x) (flat_map f xs) us) ∙ e ∙ append_assoc (f y) (flat_map f ys) vs) in
-      let rest = each_told xs ys us vs (omega arith) (omega arith) (omega arith) first.1 in
-      ((λ i. first.0 i ∷ rest.0 i), rest.1)
+      (grind (arith, append_assoc)) in
+      search (each_told xs ys us vs (omega arith) (omega arith) (omega arith) first.1)
 
   pub list_tells : Tells (slice f)
-  list_tells = record {
-    some = λ xs. omega arith;
-    told = λ xs ys us vs h k e.
-        let m = each_long xs in
-        let n = each_long ys in
-        let l : length xs ≡ length ys =
-        length_told (length xs) (length ys) (omega arith) (omega arith) (cc) in
-        each_told xs ys us vs l (omega arith) (omega arith) (cc);
-  }
+  list_tells = grind (arith, each_long, length_told, each_told)
 
 -- the parts of a locale
 
@@ -199,7 +166,7 @@ other_tells = both_tell byte_tells words_tell
 pub extensions_tell : Tells extensions_fed
 extensions_tell = through {Y = ((Unicode × Transform) × List Text) × List Block}
     (λ e. (((e.unicode, e.transform), e.private), e.others))
-    (λ p. record { unicode = p.0.0.0; transform = p.0.0.1; private = p.0.1; others = p.1 })
+    (λ p. search)
     (λ e. refl)
     (both_tell (both_tell (both_tell unicode_tells transform_tells) words_tell) (list_tells other_tells))
 

@@ -147,16 +147,7 @@ short_transform_front table [] rest s = search none_first
 short_transform_front {T = T} table (p ∷ ps) rest s =
     let few = variants_before p ps rest s in
     let repeats = repeats_in_block table (p ∷ ps) rest s in
-    let field = field_before T p ps rest s in (
-      λ h. record {
-        variants = λ l. rw few (h.variants l);
-        no_field = λ n b. h.no_field (λ r. n (repeats.0 r)) (field.1 b);
-      },
-      λ h. record {
-        variants = λ l. rw few at (h.variants l);
-        no_field = λ n b. h.no_field (λ r. n (repeats.1 r)) (field.0 b);
-      },
-    )
+    grind (arith, field_before)
 
 -- by the longest front of an identifier
 pub record IsShortByFronts (T : LanguageLengths) (ps : List Text) : Type 0 where
@@ -282,5 +273,4 @@ module _ {T : ℕ → Bool} where
       }
 
   pub met_is_reached : {bs : List Block} → MeetsLongBlock T [] bs → ReachesLongBlock T bs
-  met_is_reached m = let h = met m in
-      (h.good, h.rest, h.block.0, h.block.1, h.whole, blocks_spelled h.good_before, h.letter, h.first, h.long)
+  met_is_reached m = let h = met m in search blocks_spelled
