@@ -22,7 +22,7 @@ returns-then-span-rank c = λ t before groups g s.
     let there =
     list_any_at (λ s. is_of_rank c.args.rank s.role s.word) held i NO_SPAN c.loop-i-test.true here in
     let any = ap (list_any (λ s. is_of_rank c.args.rank s.role s.word)) c.as_slice-held.ensures in (
-      λ _. sym (any_span c.args.rank t (held_spans c.args.spans.now) before groups g s) ∙ sym any ∙ there,
+      λ _. sym (search any_span) ∙ sym any ∙ there,
       λ _. refl,
     )
 
@@ -30,7 +30,7 @@ pub returns : goal.returns
 returns c = λ t before groups g s.
     let held = c.as_slice-held.result.now in
     let any = ap (list_any (λ s. is_of_rank c.args.rank s.role s.word)) c.as_slice-held.ensures in
-    let none = sym (any_span c.args.rank t (held_spans c.args.spans.now) before groups g s) ∙ sym any
+    let none = sym (search any_span) ∙ sym any
     ∙ ap (list_any (λ s. is_of_rank c.args.rank s.role s.word))
     (sym (take_all c.loop-i.i held (omega (arith, c.loop-i-test.false)))) ∙ c.loop-i.invariant in
     (λ h. absurd (true≢false (sym h)), λ m. sym none ∙ m)
