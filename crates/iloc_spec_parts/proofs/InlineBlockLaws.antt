@@ -142,7 +142,7 @@ short_identifier {T = T} i g v =
     let ps = transform_pieces m in
     let r = transform_spelled ps [] (normal_transform m) (record {
       written = m;
-      grammatical = grind arith;
+      grammatical = record { id = g; fields = tt; nonempty = λ e. absurd (cc) };
       spelled = refl;
       means = refl;
     }) refl in

@@ -346,7 +346,8 @@ transform_whole T table ps m rest h s =
     let g : IsTransformBlock T h.written =
     search in
     let ends =
-    until_block (o ++ fs) rest (long_extension T table code_t (transform h.written) (refl, g)) s in grind arith
+    until_block (o ++ fs) rest (long_extension T table code_t (transform h.written) (refl, g)) s in
+    grind arith
 
 -- pieces that no identifier goes on with
 abbrev IsInside : Text → Type 0
