@@ -32,23 +32,9 @@ use Rattle.std.proofs.Common.{
   append_assoc,
   append-nil,
 }
-use Rattle.std.specs.Result.{result_ok}
 use Rattle.std.proofs.lemmas.Bool.{cond_both}
 use Rattle.std.proofs.lemmas.Bool.Decides.{nat_tests}
-use Rattle.iloc_spec_grammar.specs.Syntax.{
-  Text,
-  Region,
-  Subtag,
-  UnicodeKey,
-  Attribute,
-  SubdivisionSuffix,
-  is_word,
-  IsWord,
-  AreLengths,
-  lower,
-  is_same,
-  is_true,
-}
+use Rattle.iloc_spec_grammar.specs.Syntax.{Text, Region, Subtag, UnicodeKey, Attribute, SubdivisionSuffix, is_word, IsWord, AreLengths, lower, is_true}
 use Rattle.iloc_spec_grammar.specs.Meaning.{Locale, Fault, InvalidExtension}
 use Rattle.iloc_spec_grammar.specs.Values.{IsNormal, IsValue, IsWellFormed, extensions_spelling, text}
 use Rattle.iloc_spec_grammar.proofs.MapLaws.{same_itself, same_is}
@@ -56,29 +42,9 @@ use Rattle.iloc_spec_grammar.proofs.WordsLaws.{is_word-lower, lower-lower}
 use Rattle.iloc_spec_grammar.proofs.Corollaries.{same_text_same_value}
 use Rattle.iloc_spec_parts.specs.Small.{SmallIdentifier, SmallLocale, IsSmall, HasSmallFault, IsSmallValue}
 use Rattle.iloc_spec_grammar.specs.Reading.{first_item}
-use Rattle.iloc_spec_parts.specs.Subdivisions.{Subdivision, subdivision, subdivision_text, IsSubdivision}
+use Rattle.iloc_spec_parts.specs.Subdivisions.{Subdivision, subdivision_text, IsSubdivision}
 use Rattle.iloc_spec_parts.specs.DataComputing.{data_of_result, data_result}
-use Rattle.iloc_spec_parts.specs.DataLocales.{
-  DataLocale,
-  IsDataLocale,
-  whole,
-  whole_region,
-  is_whole,
-  named_subdivision,
-  made_of,
-  agreed,
-  small_part,
-  data_of_small,
-  DataMeans,
-  HasDataFault,
-  not_small,
-  no_subdivision,
-  subdivision_value,
-  subdivision_keyword,
-  data_text,
-  small_of_data,
-  locale_of_data,
-}
+use Rattle.iloc_spec_parts.specs.DataLocales.{DataLocale, IsDataLocale, whole, whole_region, is_whole, named_subdivision, made_of, agreed, small_part, data_of_small, DataMeans, HasDataFault, not_small, no_subdivision, subdivision_value, data_text, small_of_data, locale_of_data}
 use Rattle.iloc_spec_parts.proofs.Keys.{sd}
 use Rattle.iloc_spec_parts.proofs.SmallLaws.{one_small, small_answer, small_apart, one_small_fault, by_result}
 use Rattle.iloc_spec_parts.specs.SmallComputing.{small_result}

@@ -1,6 +1,6 @@
 -- What values feed a hasher: values that tie feed it alike, and what is fed tells them apart.
 use Rattle.std.proofs.Common.{ℕ, length, false, replicate, Option, append_assoc, length-append, if◌then◌else◌}
-use Rattle.std.proofs.Common.{◌≡◌, zero, suc, ◌^◌, ◌<◌, ◌==◌, List, ◌++◌, refl, Bool, true, Some, None, arith}
+use Rattle.std.proofs.Common.{◌≡◌, zero, suc, ◌^◌, ◌<◌, List, ◌++◌, refl, Bool, true, Some, None, arith}
 use Rattle.std.proofs.Common.{◌≤◌, ◌-◌, [], ◌∷◌, sym, ap, ◌∙◌, ◌↔◌, ◌+◌}
 use Rattle.std.specs.Prelude.{nat_lt}
 use Rattle.std.specs.List.{list_all, flat_map}

@@ -1,69 +1,11 @@
 -- Each block of an inline text has few words.
-use Rattle.std.proofs.Common.{
-  ◌≡◌,
-  ℕ,
-  ◌≤◌,
-  Bool,
-  true,
-  false,
-  cond,
-  ◌==◌,
-  List,
-  [],
-  ◌∷◌,
-  ◌++◌,
-  length,
-  map,
-  filter,
-  refl,
-  sym,
-  ap,
-  ◌∙◌,
-  arith,
-  Option,
-  Some,
-  None,
-  IfSome,
-  option_map,
-  true≢false,
-  append-nil,
-}
+use Rattle.std.proofs.Common.{◌≡◌, ℕ, ◌≤◌, Bool, true, false, ◌==◌, List, [], ◌∷◌, ◌++◌, length, map, filter, refl, sym, ap, ◌∙◌, arith, Option, Some, None, IfSome, option_map, true≢false, append-nil}
 use Rattle.std.specs.List.{AllByRecursion, list_any}
 use Rattle.std.specs.Ordering.{nat_cmp, eq_by_cmp}
 use Rattle.std.proofs.lemmas.Bool.{or_parts, eq-eqb, false_from_ne_true}
 use Rattle.std.proofs.lemmas.Bool.Decides.{nat_tests}
 use Rattle.std.proofs.lemmas.List.{length-map}
-use Rattle.iloc_spec_grammar.specs.Syntax.{
-  LanguageLengths,
-  Block,
-  code_x,
-  code_u,
-  code_t,
-  Text,
-  pieces,
-  AreLengths,
-  PrivateSubtag,
-  is_word,
-  lower,
-  word_cmp,
-  Spelled,
-  SpelledIdentifier,
-  SpelledUnicode,
-  SpelledTransform,
-  Transform,
-  Fields,
-  identifier_pieces,
-  fields_pieces,
-  unicode_pieces,
-  transform_pieces,
-  IsIdentifier,
-  IsUnicode,
-  AllDifferent,
-  is_other_singleton,
-  lower_singleton,
-  head,
-  tail_blocks,
-}
+use Rattle.iloc_spec_grammar.specs.Syntax.{LanguageLengths, Block, code_x, code_u, Text, pieces, AreLengths, PrivateSubtag, is_word, lower, word_cmp, Spelled, SpelledIdentifier, SpelledUnicode, SpelledTransform, Fields, identifier_pieces, unicode_pieces, transform_pieces, IsIdentifier, IsUnicode, AllDifferent, is_other_singleton, lower_singleton, head, tail_blocks}
 use Rattle.iloc_spec_grammar.specs.Meaning.{
   normal_identifier,
   normal_values,
@@ -82,7 +24,7 @@ use Rattle.iloc_spec_parts.specs.Inline.{
   IsInlineByBlocks,
   ReachesLongBlock,
 }
-use Rattle.iloc_spec_parts.specs.Fronts.{FrontRead, absent, present, fields_front, before_bad_key}
+use Rattle.iloc_spec_parts.specs.Fronts.{FrontRead, absent, present}
 use Rattle.iloc_spec_parts.proofs.FrontLaws.{unicode_taken, keywords_taken}
 use Rattle.iloc_spec_parts.proofs.KeptLaws.{kept_all, passing_short, some_fields}
 use Rattle.iloc_spec_parts.proofs.ShortFronts.{

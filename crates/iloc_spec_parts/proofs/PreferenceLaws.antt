@@ -1,6 +1,6 @@
 -- Preferences: what extending and the way to a locale and back keep.
 use Rattle.std.proofs.Common.{◌≡◌, ◌≢◌, ℕ, Bool, true, false, cond, List, [], ◌∷◌, ◌++◌, length, arith, refl}
-use Rattle.std.proofs.Common.{sym, ap, ◌∙◌, Option, Some, None, Ok, Err, IfSome, option_map, option_and_then}
+use Rattle.std.proofs.Common.{sym, ap, Option, Some, None, Ok, Err, IfSome, option_map, option_and_then}
 use Rattle.std.proofs.Common.{codes, length-append, true≢false, ◌&&◌, ◌||◌, is_none, is_some}
 use Rattle.std.specs.Option.{option_or}
 use Rattle.std.specs.Result.{result_ok}
@@ -24,7 +24,7 @@ use Rattle.iloc_spec_grammar.proofs.ValuesLaws.{all_weaker}
 use Rattle.iloc_spec_grammar.proofs.Corollaries.{well_formed_value}
 use Rattle.iloc_spec_grammar.proofs.WordsLaws.{length-lower, length-region}
 use Rattle.iloc_spec_parts.specs.Subdivisions.{Subdivision, IsSubdivision, subdivision, subdivision_text}
-use Rattle.iloc_spec_parts.specs.DataLocales.{whole_region, is_whole, whole}
+use Rattle.iloc_spec_parts.specs.DataLocales.{is_whole, whole}
 use Rattle.iloc_spec_parts.specs.Keywords.{subdivision_reads, subdivision_gives}
 use Rattle.std.proofs.lemmas.Bool.{and_parts, and_from, false_from_ne_true, cond_both}
 use Rattle.iloc_spec_parts.specs.Preferences.{

@@ -1,28 +1,5 @@
 -- A small value prints as a well-formed locale does, and its text is read as it.
-use Rattle.std.proofs.Common.{
-  ◌≡◌,
-  ◌≤◌,
-  ℕ,
-  Bool,
-  false,
-  not,
-  List,
-  [],
-  ◌∷◌,
-  length,
-  map,
-  refl,
-  sym,
-  ap,
-  ◌∙◌,
-  arith,
-  Option,
-  Some,
-  None,
-  IfSome,
-  option_map,
-  option_to_list,
-}
+use Rattle.std.proofs.Common.{◌≡◌, ◌≤◌, ℕ, Bool, false, not, List, [], ◌∷◌, length, map, refl, ap, ◌∙◌, arith, Option, Some, None, IfSome, option_map, option_to_list}
 use Rattle.std.specs.List.{AllByRecursion}
 use Rattle.std.proofs.lemmas.Bool.{both_ways, cond_both, not-true}
 use Rattle.iloc_spec_grammar.specs.Syntax.{

@@ -1,29 +1,5 @@
 -- A subdivision's text is read as it, and what is read has the text in lower case.
-use Rattle.std.proofs.Common.{
-  ◌≡◌,
-  ◌≤◌,
-  true,
-  ◌&&◌,
-  ◌==◌,
-  [],
-  ◌∷◌,
-  ◌++◌,
-  length,
-  take-append-drop,
-  length-append,
-  sym,
-  ap,
-  ap₂,
-  ◌∙◌,
-  arith,
-  Some,
-  Ok,
-  ok_or,
-  inl,
-  inr,
-  true≢false,
-  MatchResult,
-}
+use Rattle.std.proofs.Common.{◌≡◌, ◌≤◌, true, ◌&&◌, ◌==◌, [], ◌∷◌, ◌++◌, length, take-append-drop, length-append, sym, ◌∙◌, arith, Some, Ok, ok_or, inl, inr, true≢false, MatchResult}
 use Rattle.std.specs.List.{list_all}
 use Rattle.std.specs.Char.{is_ascii_alphanumeric}
 use Rattle.std.proofs.lemmas.Bool.{and_parts, and_from, or_cases, eqb-true, cond_both}

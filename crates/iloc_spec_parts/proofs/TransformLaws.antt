@@ -41,47 +41,11 @@ use Rattle.std.specs.List.{AllByRecursion, list_all}
 use Rattle.std.proofs.lemmas.Bool.{cond_both, false_from_ne_true, eqb-true}
 use Rattle.std.proofs.lemmas.List.{map-append, take-append-le, take-append-drop}
 use Rattle.std.proofs.Math.Seq.{take-append_seam, drop-append_seam}
-use Rattle.iloc_spec_grammar.specs.Syntax.{
-  LanguageLengths,
-  Field,
-  code_t,
-  Text,
-  Language,
-  Script,
-  Region,
-  Variant,
-  TransformKey,
-  Attribute,
-  is_word,
-  IsWord,
-  AreLengths,
-  lower,
-  word_cmp,
-  SpelledIdentifier,
-  Transform,
-  Fields,
-  identifier_pieces,
-  optional_pieces,
-  fields_pieces,
-  HasWords,
-  IsIdentifier,
-  IsField,
-  AllDifferent,
-  first_piece,
-  front,
-}
+use Rattle.iloc_spec_grammar.specs.Syntax.{LanguageLengths, Field, code_t, Text, Language, Script, Region, Variant, TransformKey, Attribute, is_word, IsWord, AreLengths, lower, word_cmp, SpelledIdentifier, Transform, Fields, identifier_pieces, optional_pieces, fields_pieces, HasWords, IsIdentifier, IsField, first_piece, front}
 use Rattle.iloc_spec_grammar.specs.Tree.{transform, IsTransformBlock}
-use Rattle.iloc_spec_grammar.specs.Meaning.{normal_transform, Fault, RepeatsVariant}
+use Rattle.iloc_spec_grammar.specs.Meaning.{Fault, RepeatsVariant}
 use Rattle.iloc_spec_grammar.specs.ByBlocks.{TransformMeans}
-use Rattle.iloc_spec_grammar.specs.Reading.{
-  IdentifierFront,
-  EndsBefore,
-  starts_block,
-  from_block,
-  front_of,
-  after_front,
-  identifier_of,
-}
+use Rattle.iloc_spec_grammar.specs.Reading.{IdentifierFront, EndsBefore, starts_block, from_block, front_of, identifier_of}
 use Rattle.iloc_spec_grammar.proofs.WordsLaws.{length-language, region_no_script, length-transform_key}
 use Rattle.iloc_spec_grammar.proofs.ValuesLaws.{all_weaker, all_both}
 use Rattle.iloc_spec_grammar.proofs.IdentifierLaws.{pieces-identifier_of, one_identifier}

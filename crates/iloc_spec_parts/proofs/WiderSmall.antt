@@ -2,7 +2,7 @@
 use Rattle.std.proofs.Common.{arith}
 use Rattle.std.proofs.Common.{◌≡◌, ℕ, Bool, true}
 use Rattle.std.proofs.lemmas.Option.{IfSome_then}
-use Rattle.iloc_spec_grammar.specs.Syntax.{Text, IsIdentifier}
+use Rattle.iloc_spec_grammar.specs.Syntax.{Text}
 use Rattle.iloc_spec_grammar.proofs.WiderTables as tables
 use Rattle.iloc_spec_parts.specs.Small.{SmallLocale, identifier_of_small, IsSmall}
 

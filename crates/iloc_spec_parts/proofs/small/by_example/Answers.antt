@@ -1,5 +1,4 @@
 -- By computing each.
-use Rattle.std.proofs.Common.{refl}
 use Rattle.iloc_spec_grammar.specs.Syntax.{pieces, join, is_word, lower, upper, title, is_true, languages}
 use Rattle.iloc_spec_grammar.specs.Values.{extensions_spelling}
 use Rattle.iloc_spec_grammar.specs.Reading.{identifier_of, front_of, unicode_of, transform_of, written_of}
