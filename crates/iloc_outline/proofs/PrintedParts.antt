@@ -1,8 +1,8 @@
 -- The parts of good blocks, by the ranks of these, print what the blocks mean.
-use Rattle.std.proofs.Common.{◌≡◌, ◌≢◌, ℕ, ◌<◌, ◌==◌, ◌&&◌, Bool, true, false, not, cond, List, [], ◌∷◌, ◌++◌}
+use Rattle.std.proofs.Common.{◌≡◌, ◌≢◌, ℕ, ◌<◌, ◌==◌, Bool, true, false, cond, List, [], ◌∷◌, ◌++◌}
 use Rattle.std.proofs.Common.{map, flat_map, filter_map, refl, sym, ap, ◌∙◌, arith, Option, Some, None}
 use Rattle.std.proofs.Common.{append_assoc, append-nil, nat_le}
-use Rattle.std.specs.List.{AllByRecursion, list_any}
+use Rattle.std.specs.List.{AllByRecursion}
 use Rattle.std.specs.Char.{is_ascii_alphanumeric, to_ascii_lowercase}
 use Rattle.std.specs.Ordering.{nat_cmp, eq_by_cmp, is_lt}
 use Rattle.std.specs.Cmp.{nat_cmp_total}
@@ -29,14 +29,7 @@ use Rattle.iloc_spec_grammar.specs.Syntax.{
   lower_singleton,
   tail_blocks,
 }
-use Rattle.iloc_spec_grammar.specs.Meaning.{
-  map_of,
-  no_transform,
-  no_unicode,
-  InvalidExtension,
-  DuplicatedExtension,
-  InvalidSubtag,
-}
+use Rattle.iloc_spec_grammar.specs.Meaning.{map_of, no_transform, no_unicode}
 use Rattle.iloc_spec_grammar.specs.Tree.{
   Extension,
   unicode_part,
@@ -56,7 +49,7 @@ use Rattle.iloc_spec_grammar.specs.Values.{
   extensions_spelling,
 }
 use Rattle.iloc_spec_grammar.specs.Reading.{extension_of, extensions_in, private_in, written_of}
-use Rattle.iloc_spec_grammar.specs.Computing.{is_block, repeats_variant, first_fault}
+use Rattle.iloc_spec_grammar.specs.Computing.{is_block, first_fault}
 use Rattle.iloc_spec_grammar.proofs.FaultLaws.{EndsAtX, tail_ends}
 use Rattle.iloc_spec_grammar.proofs.General.{all_of, all_mapped, map-same}
 use Rattle.iloc_spec_grammar.proofs.MapLaws.{all-map_of, is_sorted-map_of, map_of_same}

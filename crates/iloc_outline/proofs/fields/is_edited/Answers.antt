@@ -1,7 +1,5 @@
-use Rattle.std.proofs.Common.{◌≤◌, sym, arith}
+use Rattle.std.proofs.Common.{arith}
 use Rattle.std.proofs.lemmas.Bool.Decides.{nat_tests}
-use denote.Enum.Bare.{same_false}
-use Rattle.iloc_spans.specs.contracts.span.Role.{the_type}
 use Rattle.iloc_outline.proofs.ValueLemmas.{plain_one, plain_without}
 use Rattle.iloc_outline.proofs.fields.is_edited.Goals as goal
 

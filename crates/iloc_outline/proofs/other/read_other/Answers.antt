@@ -1,8 +1,7 @@
 -- Pieces of two to eight bytes up to the next block, of which one is a subtag.
-use Rattle.std.proofs.Common.{arith, ◌≡◌, ◌+◌, ◌-◌, true, sym, ap, ◌∙◌}
+use Rattle.std.proofs.Common.{arith, ◌≡◌, true, sym, ap, ◌∙◌}
 use Rattle.iloc_spec_grammar.specs.Syntax.{is_other_singleton}
 use Rattle.iloc_pieces.specs.Cursor.{IsEnd, piece_left}
-use Rattle.iloc_outline.specs.declared.reading.Found.TheVariants.{End, Next}
 use Rattle.iloc_pieces.proofs.CursorLemmas.{between_short, last_piece, past_none}
 use Rattle.iloc_outline.proofs.OtherLemmas.{
   IsBetween,

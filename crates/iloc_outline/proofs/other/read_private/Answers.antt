@@ -1,9 +1,8 @@
 -- Private subtags up to the end, one at least.
-use Rattle.std.proofs.Common.{arith, ◌+◌, false, [], ◌∷◌, ◌++◌, sym, ap, ◌∙◌}
+use Rattle.std.proofs.Common.{arith, ◌+◌, false, sym, ◌∙◌}
 use Rattle.iloc_spec_grammar.specs.Syntax.{PrivateSubtag, IsWord}
 use Rattle.iloc_pieces.specs.Cursor.{IsEnd, piece_left}
 use Rattle.iloc_outline.specs.Reading.{block_span}
-use Rattle.iloc_spans.specs.Spans.{held_spans}
 use Rattle.iloc_spans.specs.declared.span.Span.{Span}
 use Rattle.iloc_pieces.proofs.CursorLemmas.{last_piece, past_none, short_private}
 use Rattle.iloc_outline.proofs.OtherLemmas.{private_end, private_next, private_odd}

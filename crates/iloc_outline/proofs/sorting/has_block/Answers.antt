@@ -4,7 +4,6 @@ use Rattle.std.proofs.lemmas.List.{take_all}
 use Rattle.std.proofs.lemmas.List.Folds.{list_any_at}
 use Rattle.std.proofs.lemmas.Bool.Decides.{nat_tests}
 use Rattle.iloc_outline.specs.Groups.{is_singleton}
-use Rattle.iloc_spans.specs.Spans.{held_spans}
 use Rattle.iloc_spans.specs.declared.span.TheConstants.{NO_SPAN}
 use Rattle.iloc_outline.proofs.GroupsLemmas.{any_span, is_of_rank, singleton_told}
 use Rattle.iloc_outline.proofs.sorting.has_block.Goals as goal

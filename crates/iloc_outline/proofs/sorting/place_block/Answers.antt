@@ -1,6 +1,4 @@
-use Rattle.std.proofs.Common.{take, ap, ◌∙◌, arith, sym}
-use Rattle.std.specs.List.{list_any}
-use Rattle.iloc_outline.specs.Groups.{is_greater}
+use Rattle.std.proofs.Common.{arith}
 use Rattle.iloc_spans.specs.Spans.{held_spans}
 use Rattle.iloc_spans.specs.declared.span.TheConstants.{NO_SPAN}
 use Rattle.iloc_outline.proofs.GroupsLemmas.{spell_placed}
