@@ -114,12 +114,6 @@ unfolding or_else
 find_block q [] x = refl
 find_block q (e ∷ es) x = grind (arith, or_else, find_block q es x)
 
-no_private : (q : ℕ) → q ≢ code_x → (x : Option Block) →
-    IfSome x (λ e. (lower_singleton e ≡ code_x) × IsPrivate e.1) →
-    find nat_cmp q (by_singleton (option_to_list x)) ≡ None
-no_private q n None h = refl
-no_private q n (Some b) h = grind (arith, untied)
-
 -- what is found gives its part
 
 unicode_by : (T : LanguageLengths) (o : Option Extension) → IfSome o (IsExtension T code_u) →

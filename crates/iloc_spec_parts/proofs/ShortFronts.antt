@@ -235,16 +235,6 @@ record Met (T : LanguageLengths) (seen : List ℕ) (bs : List Block) : Type 0 wh
   long : ¬ (IsShortBlock T block)
 
 module _ {T : ℕ → Bool} where
-  after_good : (b : Block) (rest : List Block) (seen : List ℕ)
-      (good : List Block) →
-      AreGood T seen good → HasSingleton b → IsNew seen b → ¬ (IsSecond good b) → ¬ (IsShortBlock T b) →
-      MeetsLongBlock T seen (good ++ (b ∷ rest))
-  after_good b rest seen [] g l k n x = here l k x
-  after_good b rest seen (d ∷ ds) g l k n x =
-      let parts = or_parts _ _ (false_from_ne_true _ n) in
-      later g.0.0 g.0.1 g.0.2
-      (after_good b rest (lower_singleton d ∷ seen) ds g.1 l (λ i. parts.0 i || k i) (both_ways _ parts.1) x)
-
   met : {seen : List ℕ} {bs : List Block} → MeetsLongBlock T seen bs → Met T seen bs
   met (here {b = b} {bs = bs} l n x) = record {
     good = [];
