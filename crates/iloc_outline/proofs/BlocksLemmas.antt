@@ -451,22 +451,14 @@ module _ (c : ℕ) (ps rest : List Text) (l : Cursor) (old : Spans) (o : Bool) (
   more = d.done ++ block ∷ []
 
   split_more : blocks (pieces_left l) ≡ more ++ blocks rest
-  split_more = d.split ∙ ap (λ bs. d.done ++ bs) r.first
-      ∙ sym (append_assoc d.done (block ∷ []) (blocks rest))
+  split_more = grind (arith, append_assoc)
 
   cut_more : pieces_left l ≡ flat_map block_pieces more ++ rest
-  cut_more = d.cut ∙ ap (λ qs. flat_map block_pieces d.done ++ ((c ∷ []) ∷ qs)) r.all
-      ∙ sym (append_assoc (flat_map block_pieces d.done) ((c ∷ []) ∷ r.body) rest)
-      ∙ ap (λ qs. qs ++ rest) (simp (append-nil, flat_map-append))
+  cut_more = grind (arith, append_assoc, append-nil, flat_map-append)
 
   fault_more : first_fault languages [] (blocks (pieces_left l))
       ≡ first_fault languages (to_ascii_lowercase c ∷ d.seen) (blocks rest)
-  fault_more = d.fault ∙ ap (first_fault languages d.seen) r.first
-      ∙ rw (
-        letter,
-        d.seen_is (to_ascii_lowercase c) ∙ sym (any_ranks c letter d.done d.letters) ∙ new,
-        r.good,
-      )
+  fault_more = grind (arith, any_ranks)
 
   seen_more : (q : ℕ) → list_any (eq_by_cmp nat_cmp q) (to_ascii_lowercase c ∷ d.seen)
       ≡ list_any (eq_by_cmp nat_cmp q) (map (λ b. lower_singleton b) more)
@@ -488,12 +480,10 @@ module _ (c : ℕ) (ps rest : List Text) (l : Cursor) (old : Spans) (o : Bool) (
   -- a block of the greatest rank so far
   module _ (above : last < its_rank) where
     last_groups : groups_of more ≡ groups_of d.done ++ (its_rank, block_parts block) ∷ []
-    last_groups = groups_are ∙ groups_last d.done its_rank (block_parts block)
-        (all_weaker (λ j. j ≤ last) (λ j. j < its_rank) (λ j h. omega arith) (ranks d.done) d.most)
+    last_groups = grind (arith, groups_are, groups_last, all_weaker)
 
     last_parts : parts_in (groups_of more) ≡ parts_in (groups_of d.done) ++ block_parts block
-    last_parts = ap parts_in last_groups ∙ flat-append (groups_of d.done) ((its_rank, block_parts block) ∷ [])
-        ∙ ap (λ qs. parts_in (groups_of d.done) ++ qs) (append-nil (block_parts block))
+    last_parts = search (last_groups, flat-append, append-nil)
 
   order_more : k ≡ true → (o ≡ true) × (flat_map printed_part (parts_in (groups_of more))
       ≡ map lower (flat_map block_pieces more))

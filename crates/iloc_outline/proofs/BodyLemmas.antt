@@ -1,28 +1,5 @@
 -- What follows a singleton: the pieces up to the next block, and the parts that are put for them.
-use Rattle.std.proofs.Common.{
-  ◌≡◌,
-  ◌≢◌,
-  ℕ,
-  ◌<◌,
-  Bool,
-  true,
-  false,
-  List,
-  [],
-  ◌∷◌,
-  ◌++◌,
-  length,
-  map,
-  refl,
-  sym,
-  ap,
-  ap₂,
-  ◌∙◌,
-  arith,
-  append-nil,
-  length-append,
-  true≢false,
-}
+use Rattle.std.proofs.Common.{◌≡◌, ◌≢◌, ℕ, ◌<◌, Bool, true, false, List, [], ◌∷◌, ◌++◌, length, map, refl, sym, ap, ◌∙◌, arith, append-nil, length-append, true≢false}
 use Rattle.std.specs.List.{AllByRecursion}
 use Rattle.std.specs.Char.{to_ascii_lowercase}
 use Rattle.std.proofs.lemmas.Bool.{cond_both}
@@ -87,10 +64,7 @@ pub puts_then : (t : Text) (xs ys : List Part) (ps qs : List Text) (old mid new 
 puts_then t xs ys ps qs old mid new o m n a b = record {
   adds = adds_then t xs ys old mid new a.adds b.adds;
   few = omega (arith, a.few, b.few, length-append ps qs);
-  order = λ e.
-      let later = b.order e in
-      let first = a.order later.0 in
-      (first.0, flat_map-append printed_part xs ys ∙ ap₂ ◌++◌ first.1 later.1 ∙ sym (map-append lower ps qs));
+  order = grind (arith, flat_map-append, map-append);
 }
 
 -- ---- the singleton
@@ -137,8 +111,7 @@ pub front_goes_on : (l k : Cursor) (qs : List Text) → pieces_left l ≡ qs ++ 
     → (more : List Text) × (front (pieces_left l) ≡ qs ++ (piece_left k ∷ more))
 front_goes_on l k qs cut h longer = (
   front others.0,
-  ap front cut ∙ front_past qs (pieces_left k) h
-      ∙ ap (λ ps. qs ++ ps) (ap front others.1 ∙ front_first (piece_left k) others.0 longer),
+  grind (arith, front_past, front_first),
 )
   where
     others : (more : List Text) × (pieces_left k ≡ piece_left k ∷ more)

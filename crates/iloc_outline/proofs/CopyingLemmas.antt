@@ -1,5 +1,5 @@
 -- Bytes that are copied in lower case, and letters that are raised.
-use Rattle.std.proofs.Common.{◌≡◌, ◌≢◌, ℕ, zero, suc, ◌+◌, ◌<◌, ◌≤◌, [], ◌∷◌, ◌++◌, length, take, drop, map}
+use Rattle.std.proofs.Common.{◌≡◌, ◌≢◌, ℕ, zero, suc, ◌+◌, ◌<◌, ◌≤◌, [], ◌∷◌, ◌++◌, length, take, drop}
 use Rattle.std.proofs.Common.{refl, sym, ap, ◌∙◌, arith, append_assoc, append-nil, slice_index, slice_set}
 use Rattle.std.specs.Char.{to_ascii_lowercase, to_ascii_uppercase}
 use Rattle.std.proofs.Math.Seq.{take-add, take-append-add, take-nil, take-set-lt}
@@ -39,8 +39,7 @@ copied_first w F to at s d k few long is =
     sym (take-take (s + k) (s + d) to (omega arith)) ∙ ap (take (s + k)) is
     ∙ ap (λ n. take (n + k) (F ++ lower (take d part))) (sym long)
     ∙ take-append-add F (lower (take d part)) k
-    ∙ ap (λ l. F ++ l) (take-map to_ascii_lowercase k (take d part)
-    ∙ ap (map to_ascii_lowercase) (take-take k d part few))
+    ∙ ap (λ l. F ++ l) (search (take-map, take-take))
 
 -- one byte in lower case
 pub lower_one : (w : Text) (i : ℕ) → i < length w → lower (take 1 (drop i w))
@@ -99,18 +98,15 @@ module _ (to : Text) (end at : ℕ) (some : at ≢ 0) (inside : end ≤ length t
 
   front : take end (slice_set to at (to_ascii_uppercase (slice_index to at)))
       ≡ slice_set (take end to) at (to_ascii_uppercase (slice_index (take end to) at))
-  front = take-set-lt end to at (to_ascii_uppercase (slice_index to at)) more
-      ∙ ap (λ b. slice_set (take end to) at (to_ascii_uppercase b)) (sym (get_or-take end to at 0 more))
+  front = search (take-set-lt, get_or-take)
 
   pub raised_one : take end (slice_set to at (to_ascii_uppercase (slice_index to at)))
       ≡ raised 1 at (take end to)
-  raised_one = front ∙ one (take end to) at (at + 1) refl (omega (arith, long))
-      ∙ sym (is_raised 1 at (at + 1) (take end to) some refl)
+  raised_one = grind (arith, front, one, long, is_raised)
 
   pub raised_last : end ≤ at + 1 → take end (slice_set to at (to_ascii_uppercase (slice_index to at)))
       ≡ raised 2 at (take end to)
-  raised_last m = front ∙ last (take end to) at (at + 2) refl (omega (arith, long))
-      ∙ sym (is_raised 2 at (at + 2) (take end to) some refl)
+  raised_last m = grind (arith, front, last, long, is_raised)
 
   pub raised_both : (t : Text) → t ≡ slice_set to at (to_ascii_uppercase (slice_index to at)) → at + 1 < end
       → take end (slice_set t (at + 1) (to_ascii_uppercase (slice_index t (at + 1))))

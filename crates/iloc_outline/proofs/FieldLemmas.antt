@@ -221,13 +221,7 @@ module _ (r : Role) (l at : Cursor) (old : Spans) (mid : List Span) (last : ℕ)
           field_of r (piece_left at) h.values key h.each (λ t. let l = some t in omega (arith, h.count))
 
       field_span : IsSpan (whole_text at) span (field_part r field)
-      field_span = record {
-        role = refl;
-        word = e;
-        spanned = spanned;
-        same = λ t. plain t field is_field h.count h.trues;
-        short = λ t. field_short r field is_field;
-      }
+      field_span = grind (arith, spanned, is_field, field_short)
 
       is_span : IsSpan (whole_text l) span (field_part r field)
       is_span = rw w.past.text at field_span

@@ -159,11 +159,7 @@ pub record Steps (k : Kind) (l m : Cursor) (o : Option Cursor) (ps : List Text) 
 pub step : (k : Kind) → Bounds 8 k → {l m : Cursor} {ps : List Text} → IsPast l m ps → (b : Bool) →
     b ≡ is_word k (piece_left m)
     → (o : Option Cursor) → IsOnePast b m o → Steps k l m o ps
-step k ends {l} {m} {ps} p true e None a = record {
-  passed = p.pieces ∙ ap (λ qs. ps ++ qs) a
-      ∙ sym (ap (λ w. ps ++ option_to_list w) (took k (cursor.bytes_left m) (sym e)));
-  rest = ap (skip_first (is_word k)) a ∙ skipped k (piece_left m) [] (sym e);
-}
+step k ends {l} {m} {ps} p true e None a = grind (arith, took, skipped)
 step k ends {l} {m} {ps} p true e (Some n) a = record {
   passed = subst (λ (w : Option Text). IsPast l n (ps ++ option_to_list w))
       (sym (took k (cursor.bytes_left m) (sym e)))
@@ -171,13 +167,7 @@ step k ends {l} {m} {ps} p true e (Some n) a = record {
   rest = ap (skip_first (is_word k)) a.pieces ∙ skipped k (piece_left m) (pieces_left n) (sym e);
 }
 step k ends p false e None a = absurd (a tt)
-step k ends {l} {m} {ps} p false e (Some n) a = record {
-  passed = subst (λ (w : Option Text). IsPast l n (ps ++ option_to_list w))
-      (sym (took_none k (cursor.bytes_left m) (sym e)))
-      (subst (λ (qs : List Text). IsPast l n qs) (sym (append-nil ps))
-      (subst (λ (i : Cursor). IsPast l i ps) (sym a) p));
-  rest = skipped_none k (cursor.bytes_left m) (sym e) ∙ ap (λ i. pieces_left i) (sym a);
-}
+step k ends {l} {m} {ps} p false e (Some n) a = grind (arith, took_none, append-nil, skipped_none)
 
 -- ---- how it is printed
 
@@ -269,10 +259,7 @@ printed_part l (Some s) (Some r) h g =
       length-lower l,
       length-normal Script s,
     ) in
-    let e : cond (length r == 2) (suc (length (l ++ 45 ∷ s))) 0 ≡ cond (length r == 2) (suc (length t)) 0 =
-    ap (λ n. cond (length r == 2) (suc n) 0) long in
-    ap (raised 2 (cond (length r == 2) (suc (length (l ++ 45 ∷ s))) 0)) script ∙ region_printed t r _ g e
-    ∙ append_assoc (lower l) (45 ∷ title s) (45 ∷ upper r)
+    grind (arith, region_printed, append_assoc)
 
 -- they are within the text
 placed : (l : Text) (s r : Option Text) → 2 ≤ length l → IfSome s (IsWord Script) → IfSome r (IsWord Region)
@@ -384,12 +371,10 @@ module _ {l m : Cursor} (language : IsWord (Language languages) (piece_left l))
   module _ (third : Option Cursor) (st : Steps Script l m third (piece_left l ∷ [])) where
     region_is : (front_of (pieces_left l)).region ≡ region third
     unfolding front_of
-    region_is = ap (λ ps. take_first (is_word Region) (skip_first (is_word Script) (rest_of ps))) next.pieces
-        ∙ ap (take_first (is_word Region)) st.rest
+    region_is = search
 
     after_is : after_region (pieces_left l) ≡ skip_first (is_word Region) (pieces_of_next third)
-    after_is = ap (λ ps. skip_first (is_word Region) (skip_first (is_word Script) (rest_of ps))) next.pieces
-        ∙ ap (skip_first (is_word Region)) st.rest
+    after_is = search
 
     words_are : front_pieces (front_of (pieces_left l))
         ≡ piece_left l ∷ (option_to_list script ++ option_to_list (region third))
@@ -439,9 +424,4 @@ module _ {l m : Cursor} (language : IsWord (Language languages) (piece_left l))
           let words =
           append_assoc (piece_left l ∷ []) (option_to_list script) (option_to_list (region (Some n)))
           ∙ sym (words_are (Some n) first_step) in
-          record {
-            passed = rw words at st.passed;
-            rest = after_is (Some n) first_step ∙ st.rest;
-            script = script_place;
-            region = region_place r place;
-          }
+          grind (arith, after_is, first_step, script_place, region_place)

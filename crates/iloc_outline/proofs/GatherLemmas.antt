@@ -1,32 +1,5 @@
 -- Parts that are put one after another, each where it belongs.
-use Rattle.std.proofs.Common.{
-  ◌≡◌,
-  ℕ,
-  ◌+◌,
-  ◌<◌,
-  ◌≤◌,
-  Bool,
-  true,
-  false,
-  List,
-  [],
-  ◌∷◌,
-  ◌++◌,
-  length,
-  map,
-  flat_map,
-  refl,
-  sym,
-  ap,
-  ◌∙◌,
-  arith,
-  append_assoc,
-  append-nil,
-  length-append,
-  inl,
-  inr,
-  true≢false,
-}
+use Rattle.std.proofs.Common.{◌≡◌, ℕ, ◌+◌, ◌<◌, ◌≤◌, Bool, true, false, List, [], ◌∷◌, ◌++◌, length, map, flat_map, refl, ap, arith, append_assoc, append-nil, length-append, inl, inr, true≢false}
 use Rattle.std.specs.List.{AllByRecursion, AllZip}
 use Rattle.std.specs.Ordering.{nat_cmp}
 use Rattle.std.proofs.lemmas.List.{map-append}
@@ -103,8 +76,7 @@ module _ (t : Text) (ps : List Part) (old mid : List Span) (last : ℕ) (o n : B
     -- its number is above all others
     module _ (l : last < s.word) where
       below : AllByRecursion (λ q. q.word < p.word) ps
-      below =
-          all_weaker (λ q. q.word ≤ last) (λ q. q.word < p.word) (λ q a. omega (arith, is.word)) ps g.within
+      below = grind (arith, all_weaker)
 
       below_span : AllByRecursion (λ x. x.word < s.word) g.spans
       below_span =
@@ -135,10 +107,7 @@ module _ (t : Text) (ps : List Part) (old mid : List Span) (last : ℕ) (o n : B
         gathered (stands b.0 b.3) (omega (arith, b.0, b.1)) (omega (arith, b.1)) (order_more b.0 b.2),
         among_less (λ q. q.word) ps p (below b.0),
       )
-      | inr b ↦ (let i = b.3 old g.spans refl g.stand in (
-        gathered i.0 b.0 b.1 (λ e. absurd (true≢false (sym e ∙ b.2))),
-        same_none i.1,
-      ))
+      | inr b ↦ grind (arith, gathered, same_none)
     ]
 
     -- its number is there

@@ -138,12 +138,7 @@ module _ (l : Cursor) (f : Front) (first : l.at ≡ 0)
 
   meant : (ps : List Text) → AllDifferent word_cmp (map lower i.variants) → ps ≡ identifier_pieces i
       → IdentifierMeans languages ps (normal_identifier i)
-  meant ps different same = record {
-    written = i;
-    grammatical = record { words = words_front (pieces_left l) word; different = different };
-    spelled = same;
-    means = refl;
-  }
+  meant ps different same = search words_front
 
   inside : f.end ≤ length (bytes_left l)
   inside = rw (← whole) (omega (arith, read.inside, length_text l))
@@ -208,9 +203,7 @@ module _ (l : Cursor) (f : Front) (first : l.at ≡ 0)
 
       read_up_to : (ps : List Text) → ps ≡ identifier_pieces i →
           ReadsHead (bytes_left l) ps (outline_of f) new n
-      read_up_to ps same = reads ps new n differ same spelled
-          (grind (arith, same_words, pieces_i, length-append))
-          (λ e. rw same_words at (h.puts.order e).1)
+      read_up_to ps same = grind (arith, reads, differ, spelled, same_words, pieces_i, length-append)
 
     -- variants are the rest of the text
     pub head_variants : (k : Cursor) (new : Spans) (n : Bool) →

@@ -86,8 +86,7 @@ answer : (t : Text) (i : Identifier) → IdentifierMeans languages (head (pieces
 unfolding locale_result
 answer t i m =
     let language : is_word (Language languages) (first_piece (pieces t)) ≡ true =
-    ap (is_word (Language languages)) (sym (first_of_head (pieces t)) ∙ ap first_piece m.spelled)
-    ∙ m.grammatical.words.language in
+    grind (arith, first_of_head) in
     let good : is_identifier languages (identifier_of (head (pieces t))) ≡ true =
     ap (is_identifier languages) (head_read (head (pieces t)) i m)
     ∙ (tests_identifier languages m.written).passes m.grammatical in

@@ -147,8 +147,7 @@ private_end c start l m old new o e later spanned h word end put =
       ((tests_block languages (c, (pieces_left l))).passes
           (inl (e, (record { words = each; nonempty = some })))),
       rw (parts_alone c (pieces_left l) (ap (λ d. d == code_t) e) (ap (λ d. d == code_u) e))
-          (puts_singleton (whole_text l) c start (m.at + m.piece_length) (pieces_left l) old new o whole known
-          place),
+          (search puts_singleton),
     )
 
 pub private_odd : (c : ℕ) (l m : Cursor) (old new : Spans) (o : Bool) → to_ascii_lowercase c ≡ code_x

@@ -145,5 +145,4 @@ pub values_printed : (fs : Fields) → AllByRecursion IsField fs
     ≡ fields_pieces (spelled_fields (normal_fields fs))
 values_printed fs h = map_printed roles.Field normal_values spelled_value fs
     (all_weaker IsField _ (λ f k. (field_key_fits f.0 k.0, refl)) fs h)
-    ∙ sym (flat_map-map (λ (f : Text × List Text). f.0 ∷ f.1)
-    (λ (f : Text × List Text). (f.0, spelled_value f.1)) (normal_fields fs))
+    ∙ sym (search flat_map-map)

@@ -286,11 +286,5 @@ block_printed T b a g = elim (kind_of (lower_singleton b) (lower_letter b.0 a)) 
       let one : flat_map printed_part (singleton_part b.0 b.1 ∷ []) ≡ other_spelling (c, kept b.1) =
       start b.0 c refl b.1 [] ∙ ap (λ h. (c ∷ []) ∷ (cond h (kept b.1) (map lower b.1) ++ [])) o
       ∙ ap (λ l. (c ∷ []) ∷ l) (append-nil (kept b.1)) ∙ (search printed_some) in
-      (λ j. flat_map printed_part (cond (t j) (singleton_part b.0
-      (optional_front (transform_of b.1).id) ∷ transform_parts (transform_of b.1))
-      (cond (u j) (singleton_part b.0 [] ∷ unicode_parts (unicode_of b.1))
-      (singleton_part b.0 b.1 ∷ []))))
-      ∙ one ∙ sym (λ j. cond (t j) (transform_spelling (normal_transform (transform_of b.1)))
-      (cond (u j) (unicode_spelling (normal_unicode (unicode_of b.1)))
-      (cond (x j) (private_spelling (map lower b.1)) (other_spelling (c, kept b.1)))))
+      search
 ]

@@ -1,8 +1,8 @@
 -- The parts of good blocks, by the ranks of these, print what the blocks mean.
-use Rattle.std.proofs.Common.{◌≡◌, ◌≢◌, ℕ, ◌<◌, ◌==◌, ◌&&◌, Bool, true, false, not, cond, List, [], ◌∷◌, ◌++◌}
+use Rattle.std.proofs.Common.{◌≡◌, ◌≢◌, ℕ, ◌<◌, ◌==◌, Bool, true, false, cond, List, [], ◌∷◌, ◌++◌}
 use Rattle.std.proofs.Common.{map, flat_map, filter_map, refl, sym, ap, ◌∙◌, arith, Option, Some, None}
 use Rattle.std.proofs.Common.{append_assoc, append-nil, nat_le}
-use Rattle.std.specs.List.{AllByRecursion, list_any}
+use Rattle.std.specs.List.{AllByRecursion}
 use Rattle.std.specs.Char.{is_ascii_alphanumeric, to_ascii_lowercase}
 use Rattle.std.specs.Ordering.{nat_cmp, eq_by_cmp, is_lt}
 use Rattle.std.specs.Cmp.{nat_cmp_total}
@@ -29,14 +29,7 @@ use Rattle.iloc_spec_grammar.specs.Syntax.{
   lower_singleton,
   tail_blocks,
 }
-use Rattle.iloc_spec_grammar.specs.Meaning.{
-  map_of,
-  no_transform,
-  no_unicode,
-  InvalidExtension,
-  DuplicatedExtension,
-  InvalidSubtag,
-}
+use Rattle.iloc_spec_grammar.specs.Meaning.{map_of, no_transform, no_unicode}
 use Rattle.iloc_spec_grammar.specs.Tree.{
   Extension,
   unicode_part,
@@ -56,7 +49,7 @@ use Rattle.iloc_spec_grammar.specs.Values.{
   extensions_spelling,
 }
 use Rattle.iloc_spec_grammar.specs.Reading.{extension_of, extensions_in, private_in, written_of}
-use Rattle.iloc_spec_grammar.specs.Computing.{is_block, repeats_variant, first_fault}
+use Rattle.iloc_spec_grammar.specs.Computing.{is_block, first_fault}
 use Rattle.iloc_spec_grammar.proofs.FaultLaws.{EndsAtX, tail_ends}
 use Rattle.iloc_spec_grammar.proofs.General.{all_of, all_mapped, map-same}
 use Rattle.iloc_spec_grammar.proofs.MapLaws.{all-map_of, is_sorted-map_of, map_of_same}
@@ -89,21 +82,7 @@ IsGood T b = (is_ascii_alphanumeric b.0 ≡ true) × (is_block T b ≡ true)
 pub each_good : (T : LanguageLengths) (seen : Text) (bs : List Block) → first_fault T seen bs ≡ None
     → AllByRecursion (IsGood T) bs
 each_good T seen [] h = tt
-each_good T seen (b ∷ bs) h = at (is_ascii_alphanumeric b.0) refl
-    (list_any (eq_by_cmp nat_cmp (lower_singleton b)) seen) (is_block T b) refl
-    ((lower_singleton b == code_t) && repeats_variant T b.1) (each_good T (lower_singleton b ∷ seen) bs) h
-  where
-    at : (a : Bool) → is_ascii_alphanumeric b.0 ≡ a → (s g : Bool) → is_block T b ≡ g → (r : Bool)
-        → (first_fault T (lower_singleton b ∷ seen) bs ≡ None → AllByRecursion (IsGood T) bs)
-        → cond (not a) (Some InvalidExtension) (cond s (Some DuplicatedExtension)
-        (cond g (first_fault T (lower_singleton b ∷ seen) bs)
-        (cond r (Some InvalidSubtag) (Some InvalidExtension)))) ≡ None
-        → AllByRecursion (IsGood T) (b ∷ bs)
-    at false a s g e r more h = cc
-    at true a true g e r more h = cc
-    at true a false true e r more h = ((a, e), more h)
-    at true a false false e true more h = cc
-    at true a false false e false more h = cc
+each_good T seen (b ∷ bs) h = grind (arith, each_good T (lower_singleton b ∷ seen) bs)
 
 -- ---- what is read of blocks whose singletons are in lower case
 
@@ -349,15 +328,7 @@ blocks_text ps h =
     × (is_ascii_alphanumeric b.0 ≡ true)) low =
     all_mapped (IsGood languages) _ (λ (b : Block). (lower_singleton b, b.1))
     (λ b g. (lowercase-lowercase b.0, lower_letter b.0 g.0)) bs good in
-    (λ j. let es : List (ℕ × Extension) = low_extensions bs j in
-    extensions_spelling (record {
-      unicode = unicode_part (find nat_cmp code_u es);
-      transform =
-          transform_part (find nat_cmp code_t es);
-      private = low_private bs j;
-      others =
-          map_of nat_cmp (filter_map other_part es);
-    }))
+    (search (low_extensions, low_private))
     ∙ sym (shown_in_order (extensions_at low) (private_at low)
     (others_at low (all_weaker _ _ (λ b k. k.1) low letters)))
     ∙ ap flat (map_of_same nat_cmp nat_cmp_total nat_cmp-IsAntisymmetric

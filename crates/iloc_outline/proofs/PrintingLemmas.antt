@@ -140,10 +140,7 @@ kept_more r p ps e = grind arith
 module _ (r : Role) (l m : Cursor) (next : IsNextPiece l m) (kept : is_kept r (piece_left m) ≡ true) where
   pub kept_next : dashes (kept_pieces r (rest_of (pieces_left l)))
       ≡ (45 ∷ lower (piece_left m)) ++ dashes (kept_pieces r (rest_of (pieces_left m)))
-  kept_next =
-      ap (λ ps. dashes (kept_pieces r (rest_of ps))) next.pieces
-      ∙ ap (λ ps. dashes (kept_pieces r ps)) (pieces_behind (bytes_left m))
-      ∙ kept_more r (piece_left m) (rest_of (pieces_left m)) kept
+  kept_next = grind (arith, pieces_behind, kept_more)
 
   module _ (F T to : Text) (end : ℕ) (inside : end ≤ length to)
       (all : take end to ++ dashes (kept_pieces r (rest_of (pieces_left l))) ≡ F ++ T) where
@@ -170,8 +167,7 @@ module _ (r : Role) (l m : Cursor) (next : IsNextPiece l m) (kept : is_kept r (p
 module _ (r : Role) (l : Cursor) (end : IsEnd l) (F T to : Text) (n : ℕ)
     (all : take n to ++ dashes (kept_pieces r (rest_of (pieces_left l))) ≡ F ++ T) where
   pub kept_all : take n to ≡ F ++ T
-  kept_all = sym (append-nil (take n to))
-      ∙ ap (λ ps. take n to ++ dashes (kept_pieces r (rest_of ps))) (sym end.one) ∙ all
+  kept_all = grind (arith, append-nil)
 
 -- ---- an edited part
 
@@ -312,8 +308,7 @@ bytes_after t start end l =
 
 module _ (t : Text) (s : Span) (p : Part) (is : IsSpan t s p) where
   pub span_long : length (bytes_from t s.start s.end) ≡ s.end - s.start
-  span_long = length-take-le (s.end - s.start) (drop s.start t)
-      (omega (arith, length-drop s.start t, is.spanned.inside))
+  span_long = grind (arith, length-take-le, length-drop)
 
   pub span_some : s.edited ≡ true → s.start < s.end
   span_some e = more p.pieces (is.short e).some (ap length is.spanned.bytes)
@@ -382,19 +377,7 @@ spell_wider w len l (s ∷ ss) [] h = absurd h
 spell_wider w len l (s ∷ ss) (p ∷ ps) h = (
   (let inside : s.end ≤ len = omega
       (arith, h.0.spanned.inside, length-take-le len w l) in let n : len ≡ s.start + (len - s.start) = omega
-      (arith, h.0.spanned.ascends) in record {
-        role = h.0.role;
-        word = h.0.word;
-        same = h.0.same;
-        short = h.0.short;
-        spanned = record {
-          ascends = h.0.spanned.ascends;
-          inside = omega (arith, h.0.spanned.inside, length-take-le len w l);
-          bytes = sym (take-take (s.end - s.start) (len - s.start) (drop s.start w) (omega arith))
-              ∙ ap (take (s.end - s.start)) (sym (drop-take s.start (len - s.start) w)
-              ∙ ap (λ k. drop s.start (take k w)) (sym n)) ∙ h.0.spanned.bytes;
-        };
-      }),
+      (arith, h.0.spanned.ascends) in grind (arith, length-take-le, take-take, drop-take)),
   spell_wider w len l ss ps h.1,
 )
 
@@ -425,8 +408,7 @@ module _ (w : Text) (len : ℕ) (l : len ≤ length w) (o : Outline) (spans : Sp
   front_within = omega (arith, g.inside, length-take-le len w l)
 
   pub gives_text : normal ≡ front_text o.script o.region (take o.front w) ++ parts_text g.parts
-  gives_text = g.text ∙ ap (λ t. front_text o.script o.region t ++ parts_text g.parts)
-      (take-take o.front len w front_within)
+  gives_text = grind (arith, take-take, front_within)
 
   pub gives_length : length normal ≡ o.front + length (parts_text g.parts)
   gives_length =

@@ -174,12 +174,7 @@ module _ {l : Cursor} {old : Spans} {o : Bool} {at : Cursor} {last : ℕ} {now :
 
     -- or the rank is above the greatest
     pub fresh_above : (r : ℕ) → r ≡ rank_at → last < r → (p : Bool) → p ≡ n → IsFresh p
-    fresh_above r e above p same =
-        let more : last < rank_at = rw e at above in
-        record {
-          new = unseen last rank_at more (ranks at_block.done) at_block.most;
-          ordered = λ t. (sym same ∙ t, more);
-        }
+    fresh_above r e above p same = grind (arith, unseen, ranks)
 
     -- the singleton comes twice
     pub refuses_second : IsSeen true → IsRefused l DuplicatedExtension

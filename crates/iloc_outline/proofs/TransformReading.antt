@@ -152,16 +152,9 @@ good_block c start end l id fs old mid mid' new o o' n e spanned put variants fi
     ((c ∷ []) ∷ optional_front id) (optional_variants id ++ fields_pieces fs) old mid new o o n singleton
     rest in
     let pieces : optional_front id ++ (optional_variants id ++ fields_pieces fs) ≡ transform_pieces m =
-    sym (append_assoc (optional_front id) (optional_variants id) (fields_pieces fs))
-    ∙ ap (λ ps. ps ++ fields_pieces fs) (sym (pieces_front id)) in
+    search (append_assoc, pieces_front) in
     let good = transform_good c m e rule in
-    record {
-      body = body;
-      good = good.0;
-      puts = subst (λ parts. Puts (whole_text l) parts ((c ∷ []) ∷ transform_pieces m) old new o n)
-          (sym (cc))
-          (rw pieces at all);
-    }
+    grind arith
 
 long_fields : (fs : Fields) → AllByRecursion IsField fs → AllByRecursion IsLong (fields_pieces fs)
 long_fields fs h = fields_each IsLong TransformKey long_key long_attribute fs (plain_fields fs h)

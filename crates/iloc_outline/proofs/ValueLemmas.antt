@@ -1,6 +1,6 @@
 -- Values of keys: how they are printed, and how they are passed.
-use Rattle.std.proofs.Common.{◌≡◌, ℕ, ◌+◌, ◌-◌, ◌<◌, ◌≤◌, Bool, true, false, cond, not, ◌||◌, List, [], ◌∷◌}
-use Rattle.std.proofs.Common.{◌++◌, length, map, codes, refl, sym, ap, ◌∙◌, arith, length-append}
+use Rattle.std.proofs.Common.{◌≡◌, ℕ, ◌+◌, ◌-◌, ◌<◌, ◌≤◌, Bool, true, false, ◌||◌, List, [], ◌∷◌}
+use Rattle.std.proofs.Common.{◌++◌, length, map, refl, sym, ap, ◌∙◌, arith, length-append}
 use Rattle.std.specs.List.{AllByRecursion, list_any}
 use Rattle.std.proofs.lemmas.Bool.{or_parts}
 use Rattle.std.proofs.lemmas.List.Folds.{list_any-append}
@@ -34,9 +34,7 @@ says_true w = is_true (lower w)
 none_left_out : (vs : List Text) → list_any says_true vs ≡ false → normal_values vs ≡ map lower vs
 none_left_out [] h = refl
 none_left_out (v ∷ vs) h =
-    let parts = or_parts (says_true v) (list_any says_true vs) h in
-    ap (λ b. cond (not b) (lower v ∷ normal_values vs) (normal_values vs)) parts.0
-    ∙ ap (λ l. lower v ∷ l) (none_left_out vs parts.1)
+    grind (arith, or_parts, none_left_out vs (or_parts (says_true v) (list_any says_true vs) h).1)
 
 some_spelled : (vs : List Text) → 0 < length vs → spelled_value (map lower vs) ≡ map lower vs
 some_spelled [] l = absurd (omega arith)
@@ -45,9 +43,7 @@ some_spelled (v ∷ vs) l = refl
 -- a value without any `true`
 pub plain_without : (r : Role) → IsOfField r → (n : ℕ) (t : Bool) → t ≡ false → PrintsAsItIs r n t
 plain_without roles.Keyword h n t e f is long any = ap (λ l. lower f.0 ∷ l) (none_left_out f.1 (sym any ∙ e))
-plain_without roles.Field h n t e f is long any =
-    ap (λ l. lower f.0 ∷ spelled_value l) (none_left_out f.1 (sym any ∙ e))
-    ∙ ap (λ l. lower f.0 ∷ l) (some_spelled f.1 is.2)
+plain_without roles.Field h n t e f is long any = grind (arith, none_left_out, some_spelled)
 plain_without _ h n t e f is long any = absurd (h tt)
 
 or_none : (b : Bool) → (b || false) ≡ b
@@ -58,10 +54,7 @@ only_true : (vs : List Text) → length vs ≡ 1 → list_any says_true vs ≡ t
     → spelled_value (normal_values vs) ≡ map lower vs
 unfolding is_true
 only_true [] l e = absurd (omega arith)
-only_true (v ∷ []) l e =
-    let is : says_true v ≡ true = sym (or_none (says_true v)) ∙ e in
-    ap (λ b. spelled_value (cond (not b) (lower v ∷ []) [])) is
-    ∙ ap (λ w. w ∷ []) (same_is (codes "true") (lower v) is)
+only_true (v ∷ []) l e = grind (arith, or_none, same_is)
 only_true (v ∷ w ∷ vs) l e = absurd (omega arith)
 
 -- a field whose only value is `true`
@@ -138,6 +131,6 @@ module _ (key at : Cursor) (n : ℕ) (t : Bool) (h : Reaches key at n t) (later 
       short = short_attribute (piece_left next) word;
       each = all_append (IsWord Attribute) h.values (piece_left next ∷ []) h.each (word, tt);
       count = omega (arith, h.count, length-append h.values (piece_left next ∷ []));
-      any = e ∙ ap (λ b. b || says_true (piece_left next)) h.any ∙ sym (any_more h.values (piece_left next));
+      any = grind (arith, any_more);
       room = omega (arith, h.room, k.less);
     }

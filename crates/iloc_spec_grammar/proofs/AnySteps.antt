@@ -1,5 +1,5 @@
 -- The laws of steps between texts, one and any number, by those of the tree.
-use Rattle.std.proofs.Common.{arith, ◌≡◌, ◌↔◌, inl, inr, ℕ, zero, suc, ◌≤◌, false, List, [], ◌∷◌, length, refl}
+use Rattle.std.proofs.Common.{arith, ◌≡◌, ◌↔◌, inl, inr, ℕ, zero, suc, ◌≤◌, false, List, [], ◌∷◌, length}
 use Rattle.std.proofs.Common.{sym, ap, ◌∙◌, ◌==◌, le_of_eq, le_trans}
 use Rattle.std.specs.List.{AllByRecursion}
 use Rattle.std.proofs.lemmas.Bool.{cases_Bool, cond_both, both_ways}
@@ -27,15 +27,7 @@ use Rattle.iloc_spec_grammar.specs.Meaning.{
   SpellsIdentifier,
   normal_identifier,
 }
-use Rattle.iloc_spec_grammar.specs.Tree.{
-  Extension,
-  Written,
-  extension_pieces,
-  spelling,
-  IsWritten,
-  meaning,
-  tree_text,
-}
+use Rattle.iloc_spec_grammar.specs.Tree.{Extension, Written, extension_pieces, spelling, IsWritten, meaning}
 use Rattle.iloc_spec_grammar.specs.Values.{
   text,
   identifier_text,
@@ -154,9 +146,9 @@ chain_to_text T t M m =
     let h = good_written T t id good in
     let s = seven_steps T w h in
     let same : meaning w ≡ M =
-    one_by_blocks T t (meaning w) M (read_by_blocks T t id good) (means_by_blocks t M m) in
+    search (one_by_blocks, read_by_blocks, means_by_blocks) in
     walk T 7 t w s.end h (pieces-written_of t) (search (read_long, tail_long)) s.steps (text M)
-    (s.same ∙ ap (λ N. lower (tree_text N)) same ∙ ap lower (sym (text_is M)))
+    (grind (arith, text_is))
 
 -- no text of a meaning is shorter than the printed one
 pub shortest : (T : LanguageLengths) (t : Text) (M : Locale) → Means T t M → length (text M) ≤ length t
@@ -230,7 +222,7 @@ identifier_chain_to_text T t i m =
       join (identifier_pieces w),
       identifier_step_by_tree t (join (identifier_pieces w))
           (TreeIdentifierTextStep.variant_order m.grammatical m.spelled (identifier_order_step v)),
-      inr (identifier_text i, IdentifierTextStep.letter_case case, refl),
+      grind arith,
     )
 
 -- all texts of a meaning are as long as the normal one

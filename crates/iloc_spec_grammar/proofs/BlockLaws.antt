@@ -1,34 +1,5 @@
 -- A text means a value block by block as its tree does.
-use Rattle.std.proofs.Common.{
-  ◌≡◌,
-  ◌≢◌,
-  ◌⊎◌,
-  inr,
-  ℕ,
-  Bool,
-  true,
-  false,
-  cond,
-  List,
-  [],
-  ◌∷◌,
-  ◌++◌,
-  map,
-  filter_map,
-  refl,
-  sym,
-  ap,
-  ◌∙◌,
-  subst,
-  arith,
-  Option,
-  Some,
-  None,
-  IfSome,
-  option_map,
-  option_to_list,
-  true≢false,
-}
+use Rattle.std.proofs.Common.{◌≡◌, ◌≢◌, ◌⊎◌, inr, ℕ, Bool, true, false, cond, List, [], ◌∷◌, ◌++◌, map, filter_map, refl, sym, ap, ◌∙◌, subst, arith, Option, Some, None, IfSome, option_map, option_to_list}
 use Rattle.std.specs.List.{AllByRecursion, list_any}
 use Rattle.std.specs.Ordering.{nat_cmp, eq_by_cmp}
 use Rattle.std.specs.FinMap.{find}
@@ -143,12 +114,6 @@ unfolding or_else
 find_block q [] x = refl
 find_block q (e ∷ es) x = grind (arith, or_else, find_block q es x)
 
-no_private : (q : ℕ) → q ≢ code_x → (x : Option Block) →
-    IfSome x (λ e. (lower_singleton e ≡ code_x) × IsPrivate e.1) →
-    find nat_cmp q (by_singleton (option_to_list x)) ≡ None
-no_private q n None h = refl
-no_private q n (Some b) h = grind (arith, untied)
-
 -- what is found gives its part
 
 unicode_by : (T : LanguageLengths) (o : Option Extension) → IfSome o (IsExtension T code_u) →
@@ -213,11 +178,11 @@ blocks_give T w h =
       unicode = rw (find_block code_u w.extensions w.private)
           (unicode_by T (find nat_cmp code_u (by_singleton w.extensions))
           (find_holds (IsExtension T) code_u w.extensions h.extensions) _
-          (no_private code_u (λ e. absurd (omega arith)) w.private h.private));
+          (grind arith));
       transform = rw (find_block code_t w.extensions w.private)
           (transform_by T (find nat_cmp code_t (by_singleton w.extensions))
           (find_holds (IsExtension T) code_t w.extensions h.extensions) _
-          (no_private code_t (λ e. absurd (omega arith)) w.private h.private));
+          (grind arith));
       private = rw (find_block code_x w.extensions w.private)
           (private_by T (find nat_cmp code_x (by_singleton w.extensions))
           (find_holds (IsExtension T) code_x w.extensions h.extensions) w.private h.private);
@@ -296,7 +261,7 @@ others_each (b ∷ bs) h =
     (cond t ((lower_singleton b, b.1) ∷ other_blocks bs) (other_blocks bs)) →
     AllByRecursion (λ b. is_other_singleton (lower_singleton b) ≡ true → IsOther b.1) (b ∷ bs)) [
       | true ↦ λ t h. ((λ _. h.0.0), others_each bs h.1)
-      | false ↦ λ t h. ((λ e. absurd (true≢false (sym e ∙ t))), others_each bs h)
+      | false ↦ λ t h. grind (arith, others_each bs h)
     ]) refl h
 
 rule_of : (T : LanguageLengths) (b : Block) → KnownAt T (lower_singleton b) b.1 →
@@ -343,14 +308,7 @@ one_transform T ps m n a b = grind (arith, transform_of-pieces)
 
 pub one_extensions : (T : LanguageLengths) (bs : List Block) (d e : Extensions) →
     BlocksGive (grammar_rules T) bs d → BlocksGive (grammar_rules T) bs e → d ≡ e
-one_extensions T bs d e a b = λ i. record {
-  unicode = one_part UnicodeMeans one_unicode no_unicode _ d.unicode e.unicode a.unicode b.unicode i;
-  transform = one_part (TransformMeans T) (one_transform T) no_transform _ d.transform e.transform a.transform
-      b.transform i;
-  private =
-      one_part PrivateMeans (λ ps k l x y. x.1 ∙ sym y.1) [] _ d.private e.private a.private b.private i;
-  others = (a.others ∙ sym b.others) i;
-}
+one_extensions T bs d e a b = grind (arith, one_part, one_unicode, one_transform)
 
 pub one_by_blocks : (T : LanguageLengths) (t : Text) (L M : Locale) → MeansByBlocks T t L →
     MeansByBlocks T t M →

@@ -186,7 +186,7 @@ kept_some (p ∷ ps) h = kept_one p ps
 
 trues_unicode : (fs : Fields) → AllZip TreeLessTrue fs (map (λ f. (f.0, no_trues f.1)) fs)
 trues_unicode fs = zip_map TreeLessTrue (λ f. Unit {0}) (λ f. (f.0, no_trues f.1))
-    (λ f _. (refl, without-filter (λ p. is_true (lower p)) f.1)) fs (all_of _ (λ f. tt) fs)
+    (search without-filter) fs (all_of _ (λ f. tt) fs)
 
 pub trues_step : (T : LanguageLengths) (c : ℕ) (e : Extension) → IsExtension T c e →
     ExtensionStep Trues e (without_trues e)
@@ -228,10 +228,8 @@ KeysDiffer (transform m) = keys_differ m.fields
 KeysDiffer (other ps) = Unit {0}
 
 pub field_order_step : (e : Extension) → KeysDiffer e → ExtensionStep FieldOrder e (with_sorted_fields e)
-field_order_step (unicode u) d = ExtensionStep.keyword_order d
-    (reordered-sort word_cmp (λ (f : Field). lower f.0) u.keywords)
-field_order_step (transform m) d =
-    ExtensionStep.field_order d (reordered-sort word_cmp (λ (f : Field). lower f.0) m.fields)
+field_order_step (unicode u) d = ExtensionStep.keyword_order d (search reordered-sort)
+field_order_step (transform m) d = ExtensionStep.field_order d (search reordered-sort)
 field_order_step (other ps) d = ExtensionStep.same
 
 pub keys_differ_then : (e : Extension) →

@@ -1,30 +1,5 @@
 -- Reading doesn't see the case of letters.
-use Rattle.iloc_spec_grammar.specs.Syntax.{
-  AllDifferent,
-  IsIdentifier,
-  IsPrivate,
-  LanguageLengths,
-  Field,
-  Block,
-  code_x,
-  Text,
-  pieces,
-  join,
-  Kind,
-  is_word,
-  AreLengths,
-  lower,
-  word_cmp,
-  SpelledIdentifier,
-  Fields,
-  kept,
-  lower_singleton,
-  front,
-  blocks,
-  head,
-  tail_blocks,
-  first_piece,
-}
+use Rattle.iloc_spec_grammar.specs.Syntax.{IsPrivate, LanguageLengths, Field, Block, code_x, Text, pieces, join, Kind, is_word, AreLengths, lower, word_cmp, SpelledIdentifier, Fields, kept, lower_singleton, front, blocks, head, tail_blocks, first_piece}
 use Rattle.iloc_spec_grammar.specs.Tree.{
   IsExtension,
   Extension,
@@ -42,34 +17,8 @@ use Rattle.iloc_spec_grammar.specs.Tree.{
   meaning,
   TreeMeans,
 }
-use Rattle.std.proofs.Common.{
-  IfSome,
-  ◌≡◌,
-  ℕ,
-  ◌&&◌,
-  is_some,
-  ◌≤◌,
-  Bool,
-  ◌==◌,
-  List,
-  [],
-  ◌∷◌,
-  length,
-  map,
-  filter_map,
-  refl,
-  sym,
-  ap,
-  ap₂,
-  ◌∙◌,
-  subst,
-  arith,
-  Option,
-  Some,
-  None,
-  option_map,
-}
-use Rattle.std.specs.List.{AllByRecursion, slice_split, onto_first, list_all}
+use Rattle.std.proofs.Common.{◌≡◌, ℕ, ◌&&◌, is_some, ◌≤◌, Bool, ◌==◌, List, [], ◌∷◌, length, map, filter_map, refl, sym, ap, ap₂, ◌∙◌, subst, arith, Option, Some, None, option_map}
+use Rattle.std.specs.List.{slice_split, onto_first, list_all}
 use Rattle.std.specs.Char.{to_ascii_lowercase}
 use Rattle.std.specs.Ordering.{nat_cmp}
 use Rattle.std.specs.FinMap.{find}
@@ -316,10 +265,7 @@ is_written T w = (is_identifier T w.id && list_all (is_entry T) w.extensions)
 
 tests_written : (T : LanguageLengths) (w : Written) → Tests (is_written T w) (IsWritten T w)
 tests_written T w = tests_like
-    (λ (x : (IsIdentifier T w.id × AllByRecursion (λ e. IsExtension T (lower_singleton e) e.1) w.extensions)
-    × (AllDifferent nat_cmp (map (λ e. lower_singleton e) w.extensions)
-    × IfSome w.private (λ e. (lower_singleton e ≡ code_x) × IsPrivate e.1))).
-    record { id = x.0.0; extensions = x.0.1; different = x.1.0; private = x.1.1 })
+    (grind arith)
     (λ (h : IsWritten T w). ((h.id, h.extensions), (h.different, h.private)))
     (tests_and
     (tests_and (tests_identifier T w.id) (tests_all (is_entry T) (λ e. IsExtension T (lower_singleton e) e.1)
@@ -337,14 +283,7 @@ is_written-low T w =
     (search (lowercase-lowercase, is_extension-low)) w.extensions in
     let singletons = map-then (λ (e : ℕ × Extension). lower_singleton e) low_entry (λ e. lower_singleton e)
     (λ e. lowercase-lowercase e.0) w.extensions in
-    let private =
-    option-low is_private_block low_block (search (
-      ap₂,
-      lowercase-lowercase,
-      words-low,
-      length-map,
-    )) w.private in
-    grind (arith, ap₂, is_identifier-low)
+    grind (arith, option-low, lowercase-lowercase, words-low, length-map, is_identifier-low)
 
 -- meanings
 
@@ -401,7 +340,7 @@ case_means T table t u M e m =
     let v = m.written in
     let w = written_of (pieces u) in
     let v_is : written_of (pieces t) ≡ v =
-    ap written_of m.spelled ∙ written_of-spelling table v m.grammatical in
+    grind (arith, written_of-spelling) in
     let same : low_written v ≡ low_written w = cc (
       v_is,
       written_of-low (pieces t),

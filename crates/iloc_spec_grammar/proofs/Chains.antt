@@ -1,42 +1,5 @@
 -- At most eight steps lead from each accepted text to the printed text of its meaning.
-use Rattle.std.proofs.Common.{
-  option_to_list,
-  ◌≡◌,
-  ◌≢◌,
-  ◌⊎◌,
-  inl,
-  inr,
-  ℕ,
-  zero,
-  suc,
-  ◌+◌,
-  ◌<◌,
-  Bool,
-  true,
-  cond,
-  ◌||◌,
-  List,
-  [],
-  ◌∷◌,
-  ◌++◌,
-  length,
-  map,
-  filter_map,
-  flat_map,
-  refl,
-  sym,
-  ap,
-  ◌∙◌,
-  subst,
-  arith,
-  Option,
-  Some,
-  None,
-  IfSome,
-  option_map,
-  is_some,
-  nat_lt,
-}
+use Rattle.std.proofs.Common.{◌≡◌, ◌≢◌, ◌⊎◌, inl, inr, ℕ, zero, suc, ◌+◌, ◌<◌, Bool, true, cond, ◌||◌, List, [], ◌∷◌, ◌++◌, length, map, filter_map, flat_map, refl, sym, ap, ◌∙◌, subst, arith, Option, Some, None, IfSome, option_map, is_some, nat_lt}
 use Rattle.std.specs.List.{AllByRecursion, AllZip}
 use Rattle.std.specs.Char.{to_ascii_lowercase}
 use Rattle.std.specs.Ordering.{nat_cmp}
@@ -142,7 +105,7 @@ use Rattle.iloc_spec_grammar.proofs.Canonical.{
   canonical_identifier,
 }
 use Rattle.iloc_spec_grammar.proofs.Singletons.{untied, find_holds}
-use Rattle.iloc_spec_grammar.proofs.General.{cond-map, map-then, option_map-then, zip_map, all_mapped}
+use Rattle.iloc_spec_grammar.proofs.General.{map-then, option_map-then, zip_map, all_mapped}
 use Rattle.std.proofs.lemmas.Simd.{map-map}
 use Rattle.iloc_spec_grammar.proofs.PartTexts.{identifier_pieces-low, option_to_list-map, id_pieces-low}
 
@@ -171,7 +134,7 @@ spelling-low : (w : Written) → spelling (low_written w) ≡ low (spelling w)
 spelling-low w = (λ k. identifier_pieces-low w.id k
     ++ flat_map block_pieces (entries-low w.extensions k ++ option_to_list-map low_block w.private k))
     ∙ ap (λ bs. low (identifier_pieces w.id) ++ flat_map block_pieces bs)
-    (sym (map-append low_block (map extension_block w.extensions) (option_to_list w.private)))
+    (search map-append)
     ∙ ap (λ l. low (identifier_pieces w.id) ++ l) (blocks-low (blocks_of w))
     ∙ sym (map-append lower (identifier_pieces w.id) (flat_map block_pieces (blocks_of w)))
 
@@ -213,7 +176,7 @@ Fine T c e = IsExtension T c e × IsCanonical e
 find_entries : (q : ℕ) (es : List (ℕ × Extension)) →
     find nat_cmp q (low_entries es) ≡ option_map low_extension (find nat_cmp q (by_singleton es))
 find_entries q [] = refl
-find_entries q (e ∷ es) = cond-map (option_map low_extension) _ _ refl refl (find_entries q es)
+find_entries q (e ∷ es) = grind (arith, find_entries q es)
 
 unicode_found : (T : LanguageLengths) (o : Option Extension) → IfSome o (Fine T code_u) →
     cond (nat_lt 0 (length (unicode_part o).attributes + length (unicode_part o).keywords))

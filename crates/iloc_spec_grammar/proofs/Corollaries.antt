@@ -45,7 +45,4 @@ same_text_same_value L M a b e =
 pub same_meaning : (T : LanguageLengths) → AreLengths T → (t u : Text) (L M : Locale) → Means T t L →
     Means T u M →
     (L ≡ M) ↔ (text L ≡ text M)
-same_meaning T table t u L M a b = (
-  λ e. ap text e,
-  λ e. same_text_same_value L M (read_well_formed table t L a) (read_well_formed table u M b) e,
-)
+same_meaning T table t u L M a b = (λ e. ap text e, search (same_text_same_value, read_well_formed))

@@ -76,10 +76,8 @@ fronts_equality i j = search (tests_and, word_equality, optional_word)
 
 pub identifier_equality : Equality same_identifier
 identifier_equality i j = tests_like
-    (λ (e : FrontsEqual i j × (i.variants ≡ j.variants)).
-    λ k. record { language = e.0.0 k; script = e.0.1.0 k; region = e.0.1.1 k; variants = e.1 k })
-    (λ (e : i ≡ j).
-    ((ap (λ i. i.language) e, (ap (λ i. i.script) e, ap (λ i. i.region) e)), ap (λ i. i.variants) e))
+    (grind arith)
+    (grind arith)
     (tests_and (fronts_equality i j) (words_equality i.variants j.variants))
 
 pub optional_equality : Equality (option_zip same_identifier)
@@ -87,12 +85,11 @@ optional_equality = option_equality same_identifier identifier_equality
 
 pub extension_equality : Equality same_extension
 extension_equality (unicode u) (unicode v) = tests_like
-    (λ (e : (u.attributes ≡ v.attributes) × (u.keywords ≡ v.keywords)).
-    λ i. unicode (record { attributes = e.0 i; keywords = e.1 i }))
+    (grind arith)
     (λ (e : unicode u ≡ unicode v). let k : u ≡ v = cc in (ap (λ u. u.attributes) k, ap (λ u. u.keywords) k))
     (tests_and (words_equality u.attributes v.attributes) (fields_equality u.keywords v.keywords))
 extension_equality (transform m) (transform n) = tests_like
-    (λ (e : (m.id ≡ n.id) × (m.fields ≡ n.fields)). λ i. transform (record { id = e.0 i; fields = e.1 i }))
+    (grind arith)
     (λ (e : transform m ≡ transform n). let k : m ≡ n = cc in (ap (λ m. m.id) k, ap (λ m. m.fields) k))
     (tests_and (optional_equality m.id n.id) (fields_equality m.fields n.fields))
 extension_equality (other ps) (other qs) =

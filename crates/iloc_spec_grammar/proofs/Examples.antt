@@ -1,6 +1,6 @@
--- Worked examples, computed by the plain program.
-use Rattle.std.proofs.lemmas.Bool.{both_ways}
-use Rattle.std.proofs.Common.{◌≡◌, [], ◌∷◌, refl, codes, Result, Ok, Err, arith, None}
+-- Worked examples, computed by the plain programs: texts, and steps between them.
+use Rattle.std.proofs.Common.{◌≡◌, ◌∷◌, refl, codes, Result, Err, arith, None, Bool, true, false, true≢false}
+use Rattle.std.proofs.Common.{[], Ok, ℕ, sym, ap, ◌∙◌}
 use Rattle.iloc_spec_grammar.specs.Syntax.{
   code_t,
   Text,
@@ -14,10 +14,11 @@ use Rattle.iloc_spec_grammar.specs.Syntax.{
   languages,
   SpelledIdentifier,
   Identifier,
+  is_same,
 }
-use Rattle.iloc_spec_grammar.specs.Tree.{transform}
-use Rattle.iloc_spec_grammar.specs.Meaning.{Locale, Fault}
-use Rattle.iloc_spec_grammar.specs.Values.{TextStep, extensions_spelling, identifier_text, Without}
+use Rattle.iloc_spec_grammar.specs.Tree.{transform, meaning}
+use Rattle.iloc_spec_grammar.specs.Meaning.{Locale, Fault, Means}
+use Rattle.iloc_spec_grammar.specs.Values.{TextStep, extensions_spelling, identifier_text, Without, Leads}
 use Rattle.iloc_spec_grammar.specs.TreeSteps.{
   keys_differ,
   Trues,
@@ -42,6 +43,11 @@ use Rattle.iloc_spec_grammar.proofs.ComputingLaws.{
   computed_identifier,
   computed_identifier_fault,
 }
+use Rattle.iloc_spec_grammar.proofs.AnySteps.{chain_means}
+use Rattle.iloc_spec_grammar.specs.StepTests.{is_text_step}
+use Rattle.iloc_spec_grammar.proofs.TextTests.{tests_text_step}
+
+-- Worked examples, computed by the plain program.
 
 -- what the program answers, as a text
 unfoldable pub answer : Text → Result Text Fault
@@ -120,25 +126,7 @@ one_true_of_tree = TreeTextStep.rewritten
           (code_t, transform (record { id = None; fields = (codes "m0", codes "true" ∷ []) ∷ [] })) ∷ [];
       private = None;
     }}
-    (record {
-      id = record {
-        words = record { language = refl; script = tt; region = tt; variants = tt };
-        different = tt;
-      };
-      extensions = (
-        (
-          refl,
-          record {
-            id = tt;
-            fields = ((refl, (refl, (refl, tt)), omega arith), tt);
-            nonempty = λ e. omega arith;
-          },
-        ),
-        tt,
-      );
-      different = (both_ways _ refl, tt);
-      private = tt;
-    })
+    (grind arith)
     refl
     (Step.inside Trues TreeIdentifierStep.same (
       (
@@ -151,3 +139,32 @@ one_true_of_tree = TreeTextStep.rewritten
 
 pub one_true_stays : TextStep languages (codes "und-t-m0-true-true") (codes "und-t-m0-true")
 one_true_stays = step_by_tree languages_table _ _ one_true_of_tree
+
+-- Worked steps, by computing the test of each, and two texts that no step joins.
+
+pub step_by_test : (t u : Text) → is_text_step languages t u ≡ true → TextStep languages t u
+step_by_test t u e = (tests_text_step languages languages_table t u).holds e
+
+-- a chain leads to no text whose meaning has another text
+
+apart : (n : ℕ) (t u : Text) (M : Locale) → Means languages t M →
+    (computed_text (locale_result languages t) ≡ computed_text (locale_result languages u) → ⊥) →
+    Leads (TextStep languages) n t u → ⊥
+apart n t u M m d c = d (ap computed_text ((computed_means languages languages_table t M).1 m
+    ∙ sym
+    ((computed_means languages languages_table u M).1 (chain_means languages languages_table n t u M c m))))
+
+is_text : Text → Result Text Fault → Bool
+is_text t (Ok u) = is_same t u
+is_text t (Err f) = false
+
+pub same_key_stays_in_order : (n : ℕ) →
+    Leads (TextStep languages) n (codes "en-u-ca-foo-CA-bar") (codes "en-u-CA-bar-ca-foo") → ⊥
+unfolding is_text locale_result extensions_spelling written_of unicode_of transform_of identifier_of front_of
+    pieces join is_word lower upper title is_true languages
+same_key_stays_in_order n c = apart n (codes "en-u-ca-foo-CA-bar") (codes "en-u-CA-bar-ca-foo")
+    (meaning (written_of (pieces (codes "en-u-ca-foo-CA-bar"))))
+    ((computed_means languages languages_table (codes "en-u-ca-foo-CA-bar")
+    (meaning (written_of (pieces (codes "en-u-ca-foo-CA-bar"))))).0 refl)
+    (λ e. true≢false (ap (is_text (codes "en-u-ca-foo")) e))
+    c

@@ -180,7 +180,6 @@ use Rattle.iloc_spec_grammar.proofs.RuleTests.{
 use Rattle.iloc_spec_grammar.proofs.PiecesLaws.{at_pieces}
 use Rattle.iloc_spec_grammar.proofs.Singletons.{tied_back, untied, two_more}
 use Rattle.iloc_spec_grammar.proofs.General.{all_of}
-use Rattle.iloc_spec_grammar.proofs.ReadBack.{extension_singleton}
 
 -- variants that repeat
 
@@ -359,8 +358,7 @@ see_one : {X : Type 0} (s : ℕ) (seen : List ℕ) (es : List (ℕ × X)) →
     list_any (eq_by_cmp nat_cmp s) (map (λ e. lower_singleton e) es) ≡ false → NotSeen seen es →
     NotSeen (s ∷ seen) es
 see_one s seen [] h n = tt
-see_one s seen (e ∷ es) h n = let parts = or_parts _ _ h in
-    (or_from _ _ (tied_back s (lower_singleton e) parts.0) n.0, see_one s seen es parts.1 n.1)
+see_one s seen (e ∷ es) h n = let parts = or_parts _ _ h in grind (arith, see_one s seen es parts.1 n.1)
 
 pub unsee_one : {X : Type 0} (s : ℕ) (seen : List ℕ) (es : List (ℕ × X)) → NotSeen (s ∷ seen) es →
     (list_any (eq_by_cmp nat_cmp s) (map (λ e. lower_singleton e) es) ≡ false) × NotSeen seen es
@@ -378,7 +376,7 @@ good_from T seen [] h d n = tt
 good_from T seen (b ∷ bs) h d n = (
   (h.0.0, n.0, h.0.1),
   good_from T (lower_singleton b ∷ seen) bs h.1 d.1
-      (see_one (lower_singleton b) seen bs (false_from_ne_true _ d.0) n.1),
+      (search (see_one, false_from_ne_true)),
 )
 
 pub block_rules : (T : LanguageLengths) (es : List (ℕ × Extension)) (x : Option Block) →
@@ -387,10 +385,7 @@ pub block_rules : (T : LanguageLengths) (es : List (ℕ × Extension)) (x : Opti
     AllByRecursion (λ b. HasSingleton b × IsBlock T b) (map extension_block es ++ option_to_list x)
 block_rules T [] None h k = tt
 block_rules T [] (Some b) h k = ((letter b.0 (rw k.0), inl k), tt)
-block_rules T (e ∷ es) x h k = (
-  (letter e.0 (extension_singleton T (lower_singleton e) e.1 h.0), inr (e.1, h.0, refl)),
-  block_rules T es x h.1 k,
-)
+block_rules T (e ∷ es) x h k = grind (arith, block_rules T es x h.1 k)
 
 any_by : (T : LanguageLengths) (c : ℕ) (es : List (ℕ × Extension)) (x : Option Block) →
     eq_by_cmp nat_cmp c code_x ≡ false →
@@ -461,7 +456,7 @@ extensions_kept (b ∷ bs) e = grind (arith, cases_Bool, pieces-extension_of, ex
 
 pub spelling-written_of : (p : Text) (ps : List Text) → spelling (written_of (p ∷ ps)) ≡ p ∷ ps
 unfolding written_of
-spelling-written_of p ps = (grind (arith, pieces-identifier_of, extensions_kept, ends_at_x))
+spelling-written_of p ps = grind (arith, pieces-identifier_of, extensions_kept, ends_at_x)
     ∙ head-and-blocks p ps
 
 pub pieces-written_of : (t : Text) → pieces t ≡ spelling (written_of (pieces t))

@@ -98,7 +98,7 @@ case_means T t u i e m =
     let v = m.written in
     let w = identifier_of (pieces u) in
     let v_is : identifier_of (pieces t) ≡ v =
-    ap identifier_of m.spelled ∙ identifier_of-pieces v m.grammatical.words in
+    grind (arith, identifier_of-pieces) in
     let same : lower_identifier v ≡ lower_identifier w =
     cc (
       v_is,

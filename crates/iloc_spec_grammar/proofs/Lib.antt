@@ -29,10 +29,9 @@ pub mod RawLaws
 pub mod PartTexts
 pub mod SameText
 pub mod ComputingLaws
-pub mod Examples
 pub mod Singletons
 pub mod AnySteps
-pub mod StepExamples
+pub mod Examples
 pub mod Equality
 pub mod ListTests
 pub mod PartTests

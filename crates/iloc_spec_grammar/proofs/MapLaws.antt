@@ -1,5 +1,5 @@
 -- The map of a list of entries, and the set of a list of words.
-use Rattle.std.proofs.Common.{arith, ◌≡◌, Bool, true, false, cond, ◌||◌, T, List, [], ◌∷◌, map, refl, sym, ap}
+use Rattle.std.proofs.Common.{arith, ◌≡◌, Bool, true, false, cond, T, List, [], ◌∷◌, map, refl, sym, ap}
 use Rattle.std.proofs.Common.{◌∙◌, Some, true≢false}
 use Rattle.std.specs.List.{AllByRecursion, list_any}
 use Rattle.std.specs.Ordering.{is_lt, is_eq, eq_by_cmp}
@@ -47,8 +47,7 @@ module _ {K X : Type 0} (R : K → K → Ordering) where
   -- a list in order is its own map
   pub map_of_sorted : (es : List (K × X)) → is_sorted R es ≡ true → map_of R es ≡ es
   map_of_sorted [] h = refl
-  map_of_sorted (e ∷ es) h = let parts = and_parts _ _ h in
-      ap (put R e.0 e.1) (map_of_sorted es parts.1) ∙ put_first e.0 e.1 es parts.0
+  map_of_sorted (e ∷ es) h = let parts = and_parts _ _ h in grind (arith, map_of_sorted es parts.1, put_first)
 
   module _ (o : IsTotalOrder R) where
     pub sorted-map_of : (es : List (K × X)) → T (is_sorted R (map_of R es))
@@ -84,9 +83,7 @@ module _ {K X : Type 0} (R : K → K → Ordering) where
   below_differs : (k : K) (es : List (K × X)) → below_all R k es ≡ true →
       list_any (eq_by_cmp R k) (map (λ e. e.0) es) ≡ false
   below_differs k [] h = refl
-  below_differs k (e ∷ es) h = let parts = and_parts _ _ h in
-      ap (λ r. is_eq r || list_any (eq_by_cmp R k) (map (λ f. f.0) es)) (less _ parts.0)
-      ∙ below_differs k es parts.1
+  below_differs k (e ∷ es) h = let parts = and_parts _ _ h in grind (arith, below_differs k es parts.1)
 
   pub sorted_different : (es : List (K × X)) → is_sorted R es ≡ true → AllDifferent R (map (λ e. e.0) es)
   sorted_different [] h = tt

@@ -57,8 +57,7 @@ unfolding pieces join
 join-pieces t = join_with_byte-slice_split 45 t
 
 pub pieces_are : (t : Text) → ArePieces t (pieces t)
-pieces_are t =
-    record { nonempty = pieces_nonempty t; hyphen_free = pieces_hyphen_free t; joined = join-pieces t }
+pieces_are t = search (pieces_nonempty, pieces_hyphen_free, join-pieces)
 
 pub pieces_unique : (t : Text) (ps : List Text) → ArePieces t ps → ps ≡ pieces t
 pieces_unique t [] h = absurd (h.nonempty refl)

@@ -29,19 +29,11 @@ use Rattle.iloc_spec_grammar.proofs.General.{none_passes}
 -- the tables
 
 pub narrow_table : AreLengths two_or_three
-narrow_table = record {
-  least = λ n h. grind (arith, nat_tests);
-  most = λ n h. grind (arith, nat_tests);
-  no_script = λ n h. grind (arith, nat_tests);
-}
+narrow_table = grind arith
 
 pub languages_table : AreLengths languages
 unfolding languages
-languages_table = record {
-  least = λ n h. grind (arith, nat_tests);
-  most = λ n h. grind (arith, nat_tests);
-  no_script = λ n h. grind (arith, nat_tests);
-}
+languages_table = grind arith
 
 pub narrow_in_wide : (n : ℕ) → two_or_three n ≡ true → languages n ≡ true
 unfolding languages
@@ -84,8 +76,7 @@ before_zeros (suc n) = refl
 
 before_padding : (w : Text) (n : ℕ) → list_any is_zero w ≡ false → before_zero (w ++ replicate n 0) ≡ w
 before_padding [] n h = before_zeros n
-before_padding (c ∷ w) n h = let parts = or_parts (is_zero c) (list_any is_zero w) h in
-    rw parts.0 (ap (λ l. c ∷ l) (before_padding w n parts.1))
+before_padding (c ∷ w) n h = grind (arith, before_padding w n (or_parts (is_zero c) (list_any is_zero w) h).1)
 
 pub before_zero-raw : (n : ℕ) (k : Kind) (w : Text) → IsWord k w → before_zero (raw n k w) ≡ w
 before_zero-raw n k w h = search (before_padding, none_passes, either_no_zero, word_letters_or_digits)
@@ -104,8 +95,7 @@ pub wide-narrow_raw : (w : Text) → IsWord (Language two_or_three) w →
 wide-narrow_raw w h =
     let m = at_most_greatest 3 (Language two_or_three) w narrow_ends h in
     let n : 8 - length w ≡ (3 - length w) + 5 = omega arith in
-    ap (λ n. w ++ replicate n 0) n ∙ ap (λ l. w ++ l) (zeros (3 - length w) 5)
-    ∙ sym (append_assoc w (replicate (3 - length w) 0) (replicate 5 0))
+    grind (arith, zeros, append_assoc)
 
 -- the laws of raw forms
 pub ruleset raw_laws = (length-raw, before_zero-raw, raw_injective, wide-narrow_raw)

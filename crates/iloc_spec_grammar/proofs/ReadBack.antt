@@ -1,44 +1,6 @@
 -- The printed text of a well-formed value means the value.
 use Rattle.std.proofs.lemmas.Grind.{common_steps}
-use Rattle.std.proofs.Common.{
-  ◌≡◌,
-  ◌≢◌,
-  ℕ,
-  ◌+◌,
-  ◌<◌,
-  ◌≤◌,
-  Bool,
-  true,
-  false,
-  cond,
-  ◌||◌,
-  List,
-  [],
-  ◌∷◌,
-  ◌++◌,
-  length,
-  map,
-  filter_map,
-  flat_map,
-  refl,
-  sym,
-  ap,
-  ap₂,
-  ◌∙◌,
-  subst,
-  arith,
-  Option,
-  Some,
-  None,
-  IfSome,
-  option_map,
-  option_to_list,
-  true≢false,
-  is_some,
-  nat_le,
-  nat_lt,
-  append-nil,
-}
+use Rattle.std.proofs.Common.{◌≡◌, ◌≢◌, ℕ, ◌+◌, ◌<◌, ◌≤◌, Bool, true, false, cond, ◌||◌, List, [], ◌∷◌, ◌++◌, length, map, filter_map, flat_map, refl, sym, ap, ◌∙◌, subst, arith, Option, Some, None, IfSome, option_map, option_to_list, true≢false, is_some, nat_le, nat_lt, append-nil}
 use Rattle.std.specs.List.{AllByRecursion}
 use Rattle.std.specs.Char.{is_ascii_alphanumeric, to_ascii_lowercase}
 use Rattle.std.specs.Ordering.{nat_cmp, eq_by_cmp, is_lt}
@@ -96,38 +58,8 @@ use Rattle.iloc_spec_grammar.specs.Syntax.{
   AllDifferent,
   IsPrivate,
 }
-use Rattle.iloc_spec_grammar.specs.Tree.{
-  Extension,
-  unicode,
-  transform,
-  other,
-  Written,
-  extension_pieces,
-  block_pieces,
-  extension_block,
-  spelling,
-  IsExtension,
-  IsWritten,
-  unicode_part,
-  transform_part,
-  private_part,
-  other_part,
-  by_singleton,
-  meaning,
-  TreeMeans,
-  IsTreeWellFormed,
-  transform_form,
-  unicode_form,
-  others_form,
-  private_form,
-  before_t,
-  after_t,
-  printed,
-  tree_text,
-  spelled_transform,
-  spelled_unicode,
-}
-use Rattle.iloc_spec_grammar.specs.Meaning.{map_of, Locale, normal_unicode, normal_transform}
+use Rattle.iloc_spec_grammar.specs.Tree.{Extension, unicode, transform, other, Written, extension_pieces, block_pieces, extension_block, spelling, IsExtension, IsWritten, unicode_part, transform_part, private_part, other_part, by_singleton, meaning, TreeMeans, IsTreeWellFormed, others_form, private_form, before_t, after_t, printed, tree_text, spelled_transform, spelled_unicode}
+use Rattle.iloc_spec_grammar.specs.Meaning.{Locale, normal_unicode, normal_transform}
 use Rattle.iloc_spec_grammar.specs.Values.{IsNormal, IsValue, lower_identifier, spelled_fields}
 use Rattle.iloc_spec_grammar.proofs.WordsLaws.{word_letters_or_digits}
 use Rattle.iloc_spec_grammar.proofs.PiecesLaws.{pieces-join}
@@ -164,8 +96,7 @@ all_if P false x h = tt
 
 pub plain_fields : (fs : Fields) → AllByRecursion IsField fs →
     AllByRecursion (λ f. IsWord TransformKey f.0 × AllByRecursion (IsWord Attribute) f.1) fs
-plain_fields = all_weaker IsField (λ f. IsWord TransformKey f.0 × AllByRecursion (IsWord Attribute) f.1)
-    (λ f r. (r.0, r.1))
+plain_fields = grind (arith, all_weaker)
 
 module _ (P : Text → Type 0) where
   option_each : (k : Kind) → ((p : Text) → IsWord k p → P p) → (o : Option Text) → IfSome o (IsWord k) →
@@ -469,11 +400,7 @@ module _ {T : ℕ → Bool} (M : Locale) (h : IsValue T M) (g : IsTreeWellFormed
   extensions = plain_form before ++ (t_part ++ (u_part ++ plain_form after))
 
   extensions_are : (printed M).extensions ≡ extensions
-  extensions_are = λ i.
-      others_form_is (before_t M.extensions.others) (all_before IsOtherEntry M.extensions.others entries) i
-      ++ (transform_form M.extensions.transform
-      ++ (unicode_form M.extensions.unicode
-      ++ others_form_is (after_t M.extensions.others) (all_after IsOtherEntry M.extensions.others entries) i))
+  extensions_are = search (others_form_is, all_before, entries, all_after)
 
   -- a fact of each part is a fact of all
   all_extensions : (P : ℕ × Extension → Type 0) → AllByRecursion P (plain_form before) →
@@ -483,11 +410,17 @@ module _ {T : ℕ → Bool} (M : Locale) (h : IsValue T M) (g : IsTreeWellFormed
   all_extensions P a b c d = search (all_append, all_if)
 
   rules : AllByRecursion (λ e. IsExtension T (lower_singleton e) e.1 × OfWords e.1) extensions
-  rules = all_extensions (λ e. IsExtension T (lower_singleton e) e.1 × OfWords e.1)
-      (search (all_plain, other_rule, entries_before))
-      (search (value_transform, transform_nonempty))
-      (search (value_unicode, ltb-true))
-      (search (all_plain, other_rule, entries_after))
+  rules = search (
+    all_extensions,
+    all_plain,
+    other_rule,
+    entries_before,
+    value_transform,
+    transform_nonempty,
+    value_unicode,
+    ltb-true,
+    entries_after,
+  )
 
   lower_singletons : by_singleton extensions ≡ extensions
   lower_singletons =
@@ -523,24 +456,14 @@ module _ {T : ℕ → Bool} (M : Locale) (h : IsValue T M) (g : IsTreeWellFormed
 
   find_t : find nat_cmp code_t extensions
       ≡ cond has_t (Some (transform (spelled_transform M.extensions.transform))) None
-  find_t = find_skip code_t (plain_form before) _
-      (grind (arith, all_weaker, below_t))
-      ∙ find_if code_t has_t _ _ refl
-      (grind (arith, all_append, all_if, all_weaker, above_u))
+  find_t = grind (arith, find_skip, all_weaker, below_t, find_if, all_append, all_if, above_u)
 
   find_u : find nat_cmp code_u extensions
       ≡ cond has_u (Some (unicode (spelled_unicode M.extensions.unicode))) None
-  find_u = find_skip code_u (plain_form before) _
-      (grind (arith, all_weaker, below_t))
-      ∙ find_skip code_u t_part _ (all_if (λ e. e.0 ≢ code_u) has_t _ (λ _. omega arith))
-      ∙ find_if code_u has_u _ _ refl
-      (grind (arith, all_weaker, above_u))
+  find_u = grind (arith, find_skip, all_weaker, below_t, all_if, find_if, above_u)
 
   others_back : filter_map other_part extensions ≡ M.extensions.others
-  others_back = filter_map-append other_part (plain_form before) _
-      ∙ ap₂ ◌++◌ (parts_plain before entries_before)
-      (simp (filter_map-append, no_parts, parts_plain, entries_after))
-      ∙ before-after M.extensions.others
+  others_back = search (filter_map-append, parts_plain, entries_before, no_parts, entries_after, before-after)
 
   grammatical : IsWritten T (printed M)
   grammatical = record {
@@ -576,25 +499,24 @@ module _ {T : ℕ → Bool} (M : Locale) (h : IsValue T M) (g : IsTreeWellFormed
   entries_are = ap by_singleton extensions_are ∙ lower_singletons
 
   pub means_value : meaning (printed M) ≡ M
-  means_value = λ k. record {
-    id = normal_value M.id h.id k;
-    extensions = record {
-      unicode = (ap (λ es. unicode_part (find nat_cmp code_u es)) entries_are ∙ ap unicode_part find_u
-          ∙ unicode_back M.extensions.unicode
-          (normal_value_unicode M.extensions.unicode h.extensions.unicode g.values) has_u refl) k;
-      transform = (ap (λ es. transform_part (find nat_cmp code_t es)) entries_are ∙ ap transform_part find_t
-          ∙ transform_back M.extensions.transform
-          (normal_value_transform M.extensions.transform h.extensions.transform) has_t refl) k;
-      private = private_back M.extensions.private h.extensions.private k;
-      others = (ap (λ es. map_of nat_cmp (filter_map other_part es)) entries_are
-          ∙ ap (map_of nat_cmp) others_back ∙ map_of_sorted nat_cmp M.extensions.others g.ascending) k;
-    };
-  }
+  means_value = grind (
+    arith,
+    normal_value,
+    entries_are,
+    find_u,
+    unicode_back,
+    normal_value_unicode,
+    find_t,
+    transform_back,
+    normal_value_transform,
+    private_back,
+    others_back,
+    map_of_sorted,
+  )
 
   -- the printed text means the value
   pub reads_back : TreeMeans T (tree_text M) M
-  reads_back =
-      record { written = printed M; grammatical = grammatical; spelled = spelled; means = sym means_value }
+  reads_back = search (grammatical, spelled, means_value)
 
   -- what is found of the printed form
   pub printed_in_order : is_sorted nat_cmp (printed M).extensions ≡ true

@@ -235,9 +235,7 @@ module _ (T : LanguageLengths) (p : Text) (ps rest : List Text) (ends : EndsWord
       AllDifferent word_cmp (map lower (front_of (p ∷ (ps ++ rest))).variants) →
       after_front (p ∷ (ps ++ rest)) ≡ rest →
       IdentifierMeans T (p ∷ ps) (normal_identifier (front_of (p ∷ (ps ++ rest))))
-  front_means w d e =
-      let same = front_of-append p ps rest ends in
-      grind (arith, front_words, nothing_left, append-nil, pieces-front_of)
+  front_means w d e = grind (arith, front_of-append, front_words, nothing_left, append-nil, pieces-front_of)
 
   spelled_front : (s : SpellsIdentifier T (p ∷ ps)) → front_of (p ∷ ps) ≡ s.0
   spelled_front s = grind (arith, front_of-pieces)

@@ -264,8 +264,7 @@ pub two : (p : Text) → IsWord UnicodeKey p → is_two p ≡ true
 two p h = rw (length-unicode_key p h)
 
 pub keywords_pass : (fs : Fields) → AllByRecursion IsKeyword fs → KeysPass is_two fs
-keywords_pass = all_weaker IsKeyword (λ f. (is_two f.0 ≡ true) × AllByRecursion (λ p. is_two p ≡ false) f.1)
-    (grind (arith, two, all_weaker, not_two))
+keywords_pass = grind (arith, all_weaker, two, not_two)
 
 pub unicode_read : (u : SpelledUnicode) → IsUnicode u → unicode_of (unicode_pieces u) ≡ u
 unfolding unicode_of
@@ -334,8 +333,7 @@ pub optional_no_key : (T : LanguageLengths) (o : Option SpelledIdentifier) → I
 optional_no_key T = optional_each IsNoKey T identifier_no_key
 
 pub fields_pass : (fs : Fields) → AllByRecursion IsField fs → KeysPass (is_word TransformKey) fs
-fields_pass = all_weaker IsField (λ f. (is_word TransformKey f.0 ≡ true) × AllByRecursion IsNoKey f.1)
-    (grind (arith, all_weaker, attribute_no_key))
+fields_pass = grind (arith, all_weaker, attribute_no_key)
 
 optional_read : (T : LanguageLengths) (o : Option SpelledIdentifier) → IfSome o (IsIdentifier T) →
     optional_of (optional_pieces o) ≡ o

@@ -161,10 +161,7 @@ tests_identifier T i = tests_like (λ (x : HasWords T i × AllDifferent word_cmp
       variants = x.1.1;
     })
     (λ (h : HasWords T i). ((h.language, h.script), (h.region, h.variants)))
-    (tests_and (tests_and (tests_word (Language T) i.language)
-    (tests_if_some (is_word Script) (IsWord Script) (tests_word Script) i.script))
-    (tests_and (tests_if_some (is_word Region) (IsWord Region) (tests_word Region) i.region)
-    (tests_all (is_word Variant) (IsWord Variant) (tests_word Variant) i.variants))))
+    (search (tests_and, tests_word, tests_if_some, tests_all)))
     (tests_different word_cmp (map lower i.variants)))
 
 pub tests_attributes : (ps : List Text) →
@@ -176,9 +173,7 @@ tests_keyword f = tests_and (tests_word UnicodeKey f.0) (tests_attributes f.1)
 
 pub tests_unicode : (u : SpelledUnicode) → Tests (is_unicode u) (IsUnicodeBlock u)
 tests_unicode u = tests_like
-    (λ (x : (AllByRecursion (IsWord Attribute) u.attributes × AllByRecursion IsKeyword u.keywords)
-    × (0 < length u.attributes + length u.keywords)).
-    record { attributes = x.0.0; keywords = x.0.1; nonempty = x.1 })
+    (grind arith)
     (λ (h : IsUnicodeBlock u). ((h.attributes, h.keywords), h.nonempty))
     (tests_and
     (tests_and (tests_attributes u.attributes) (tests_all is_keyword IsKeyword tests_keyword u.keywords))
@@ -186,8 +181,7 @@ tests_unicode u = tests_like
 
 pub tests_field : (f : Field) → Tests (is_field f) (IsField f)
 tests_field f =
-    tests_like (λ (x : (IsWord TransformKey f.0 × AllByRecursion (IsWord Attribute) f.1) × (0 < length f.1)).
-    (x.0.0, x.0.1, x.1)) (λ (x : IsField f). ((x.0, x.1), x.2))
+    tests_like (grind arith) (λ (x : IsField f). ((x.0, x.1), x.2))
     (tests_and (tests_and (tests_word TransformKey f.0) (tests_attributes f.1)) (tests_positive (length f.1)))
 
 pub tests_needed : (o : Option SpelledIdentifier) (n : ℕ) → Tests (is_some o || nat_lt 0 n) (o ≡ None → 0 < n)
@@ -199,14 +193,11 @@ tests_other ps = tests_like
     (λ (x : AllByRecursion (λ p. is_in_range 2 8 (length p) ≡ true) ps × (0 < length (kept ps))).
     record { lengths = x.0; nonempty = x.1 })
     (λ (h : IsOther ps). (h.lengths, h.nonempty))
-    (tests_and
-    (tests_all (λ p. is_in_range 2 8 (length p)) (λ p. is_in_range 2 8 (length p) ≡ true)
-    (λ p. record { holds = λ e. e; passes = λ e. e }) ps) (tests_positive (length (kept ps))))
+    (grind (arith, tests_and, tests_all, tests_positive))
 
 pub tests_private : (ps : List Text) → Tests (is_private ps) (IsPrivate ps)
 tests_private ps = tests_like
-    (λ (x : AllByRecursion (IsWord PrivateSubtag) ps × (0 < length ps)).
-    record { words = x.0; nonempty = x.1 })
+    (grind arith)
     (λ (h : IsPrivate ps). (h.words, h.nonempty))
     (tests_and (tests_all (is_word PrivateSubtag) (IsWord PrivateSubtag) (tests_word PrivateSubtag) ps)
     (tests_positive (length ps)))
@@ -215,8 +206,7 @@ pub tests_extension : (T : LanguageLengths) (c : ℕ) (e : Extension) →
     Tests (is_extension T c e) (IsExtension T c e)
 tests_extension T c (unicode u) = tests_and (tests_nat c code_u) (tests_unicode u)
 tests_extension T c (transform m) = tests_and (tests_nat c code_t)
-    (tests_like (λ (x : (IfSome m.id (IsIdentifier T) × AllByRecursion IsField m.fields) ×
-    (m.id ≡ None → 0 < length m.fields)). record { id = x.0.0; fields = x.0.1; nonempty = x.1 })
+    (tests_like (grind arith)
     (λ (h : IsTransformBlock T m). ((h.id, h.fields), h.nonempty))
     (tests_and (tests_and (tests_if_some (is_identifier T) (IsIdentifier T) (tests_identifier T) m.id)
     (tests_all is_field IsField tests_field m.fields)) (tests_needed m.id (length m.fields))))

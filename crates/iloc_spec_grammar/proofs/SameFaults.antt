@@ -112,7 +112,7 @@ pub block_fault_by_tree : (T : LanguageLengths) (good : List Block) (b : Block)
     {f : Fault} →
     AreGood T [] good → TreeBlockFault T (seen_after [] good) b f → BlockFault T good b f
 block_fault_by_tree T good b g (no_singleton e) =
-    BlockFault.breaks_rule (λ s. true≢false (sym (second_letter T [] b good g s) ∙ e))
+    BlockFault.breaks_rule (grind (arith, second_letter))
     (λ r. true≢false (sym (t_letter b r.0) ∙ e)) (λ k. true≢false (sym (good_blocks k.1).0.0 ∙ e))
 block_fault_by_tree T good b g (TreeBlockFault.duplicated a e) =
     BlockFault.duplicated (sym (seen_is b good) ∙ e)

@@ -293,8 +293,7 @@ unfolding unicode_of
 unicode_rule T None h = search
 unicode_rule T (Some ps) (inl p) = absurd (let k = p.0 in omega arith)
 unicode_rule T (Some ps) (inr (unicode u, h, e)) =
-    subst IsUnicode (sym (ap unicode_of e ∙ unicode_of-pieces u h.1))
-    (record { attributes = h.1.attributes; keywords = h.1.keywords })
+    subst IsUnicode (sym (ap unicode_of e ∙ unicode_of-pieces u h.1)) (search)
 unicode_rule T (Some ps) (inr (transform m, h, e)) = absurd (let k = h.0 in omega arith)
 unicode_rule T (Some ps) (inr (other qs, h, e)) = cc
 

@@ -195,11 +195,10 @@ block_by_tree T c h (ExtensionStep.unicode_repeats v w) = BlockStep.in_unicode _
 block_by_tree T c h (ExtensionStep.transform_repeats {i = i} w) = BlockStep.in_transform _ _ h.0
     (plain_transform h.1) (same_id Rule.Repeats i) w
 block_by_tree T c h (ExtensionStep.unicode_trues {fs = fs} {gs = gs} z) =
-    BlockStep.in_unicode _ _ h.0 (plain_unicode h.1) refl
-    (zip_weaker TreeLessTrue (LessTrue 0) (λ f g l. less_by_tree 0 f g l (omega arith)) fs gs z)
+    BlockStep.in_unicode _ _ h.0 (plain_unicode h.1) refl (grind (arith, zip_weaker, less_by_tree))
 block_by_tree T c h (ExtensionStep.transform_trues {i = i} {fs = fs} {gs = gs} z) =
     BlockStep.in_transform _ _ h.0 (plain_transform h.1) (same_id Rule.Trues i)
-    (zip_weaker _ (LessTrue 1) (λ f g l. less_by_tree 1 f g l.0 l.1) fs gs z)
+    (grind (arith, zip_weaker, less_by_tree))
 block_by_tree T c h (ExtensionStep.dropped_pieces w) =
     BlockStep.in_other h.0 refl w
 block_by_tree T c h _ = BlockStep.same

@@ -24,21 +24,7 @@ use Rattle.iloc_spec_grammar.specs.Syntax.{
   IsUnicode,
   lower_singleton,
 }
-use Rattle.iloc_spec_grammar.specs.Tree.{
-  Extension,
-  unicode,
-  transform,
-  other,
-  Written,
-  extension_block,
-  blocks_of,
-  spelling,
-  IsUnicodeBlock,
-  IsTransformBlock,
-  IsExtension,
-  IsWritten,
-  IsBlock,
-}
+use Rattle.iloc_spec_grammar.specs.Tree.{Extension, unicode, other, Written, extension_block, blocks_of, spelling, IsUnicodeBlock, IsTransformBlock, IsExtension, IsWritten, IsBlock}
 use Rattle.iloc_spec_grammar.specs.Meaning.{Locale, Means, AreBlocks, normal_identifier, normal_extensions}
 use Rattle.iloc_spec_grammar.specs.Values.{
   Reordered,
@@ -60,15 +46,7 @@ use Rattle.iloc_spec_grammar.specs.TreeSteps.{
   TreeIdentifierTextStep,
   written,
 }
-use Rattle.iloc_spec_grammar.specs.Reading.{
-  identifier_of,
-  written_of,
-  unicode_of,
-  transform_of,
-  extension_of,
-  extensions_in,
-  private_in,
-}
+use Rattle.iloc_spec_grammar.specs.Reading.{identifier_of, written_of, unicode_of, extension_of, extensions_in, private_in}
 use Rattle.iloc_spec_grammar.proofs.Orders.{
   total_reordered,
   all_reordered,
@@ -172,10 +150,11 @@ read_step T r (BlockStep.in_transform {c = c} m n e h i k) = inr (record {
   step =
       λ g. let x = rw e at (rule_read T (c, transform_pieces m) (λ n. let m = e in absurd (omega arith)) g) in
       rw e (let s = transform_step r m n i k in let p = transform_read m h in let after =
-      (extension_step T code_t s (refl, subst (IsTransformBlock T) p x.1)).0.1 in let q = transform_read
-      n (record { id = after.id; fields = after.fields }) in subst
-      (λ w. ExtensionStep (tree_rule r) (transform w) (transform (transform_of (transform_pieces n))))
-      (sym p) (subst (λ w. ExtensionStep (tree_rule r) (transform m) (transform w)) (sym q) s));
+      (extension_step T code_t s (refl, subst (IsTransformBlock T) p x.1)).0.1 in grind (
+        arith,
+        transform_read,
+        tree_rule,
+      ));
 })
 read_step T r (BlockStep.in_other {c = c} {ps = ps} {qs = qs} o p w) = inr (record {
   no_x = ne_eqb _ _ (λ x. no_x _ x o);
@@ -228,7 +207,7 @@ written_of_step T Rule.BlockOrder ps qs i j p q s z h =
     (private_after (tail_blocks qs) (tail_ends qs)) (filter_reordered _ z)))) in
     subst (λ w. Step (written_of ps) w) (λ k. written (id k) (extensions_in (tail_blocks qs)) (x k))
     (Step.block_order
-    (extensions_reordered (tail_blocks ps) (tail_blocks qs) (tail_ends ps) (tail_ends qs) z))
+    (search (extensions_reordered, tail_ends)))
 written_of_step T r ps qs i j p q s z h =
     let ids : TreeIdentifierStep (tree_rule r) (identifier_of (head ps)) (identifier_of (head qs)) =
     subst (λ k. TreeIdentifierStep (tree_rule r) k (identifier_of (head qs))) (sym p)
@@ -249,8 +228,8 @@ tree_step {T = T} t u (TextStep.rewritten r w) =
     (good_written T t (id.written, id.grammatical, id.spelled) good)
     (pieces-written_of t)
     (written_of_step T r (pieces t) (pieces u) w.old w.new
-    (ap identifier_of w.old_spelled ∙ identifier_of-pieces w.old w.words)
-    (ap identifier_of w.new_spelled ∙ identifier_of-pieces w.new second.words) w.id w.blocks
+    (grind (arith, identifier_of-pieces))
+    (grind (arith, identifier_of-pieces)) w.id w.blocks
     (good_rules T [] _ good)))
 
 -- a step of what a text spells is one of its blocks

@@ -1,73 +1,11 @@
 -- The printed text is the text of the printed tree, so that the tests tell which values are well-formed.
-use Rattle.std.proofs.Common.{
-  ◌≡◌,
-  ◌↔◌,
-  ℕ,
-  ◌+◌,
-  ◌||◌,
-  Bool,
-  true,
-  false,
-  cond,
-  List,
-  [],
-  ◌∷◌,
-  ◌++◌,
-  length,
-  map,
-  flat_map,
-  refl,
-  sym,
-  ap,
-  ◌∙◌,
-  subst,
-  option_to_list,
-  is_some,
-  nat_lt,
-  append_assoc,
-  append-nil,
-}
+use Rattle.std.proofs.Common.{arith}
+use Rattle.std.proofs.Common.{◌≡◌, ◌↔◌, ℕ, Bool, cond, List, [], ◌∷◌, ◌++◌, length, map, flat_map, refl, sym, ap, ◌∙◌, subst, option_to_list, nat_lt, append_assoc, append-nil}
 use Rattle.std.proofs.lemmas.Bool.{cond_both}
 use Rattle.std.proofs.lemmas.List.{map-append}
 use Rattle.std.proofs.lemmas.List.Concat.{flat_map-append}
-use Rattle.iloc_spec_grammar.specs.Syntax.{
-  Block,
-  code_x,
-  code_u,
-  code_t,
-  Text,
-  join,
-  AreLengths,
-  languages,
-  SpelledTransform,
-  Unicode,
-  Transform,
-  identifier_pieces,
-  unicode_pieces,
-  transform_pieces,
-}
-use Rattle.iloc_spec_grammar.specs.Tree.{
-  Extension,
-  unicode,
-  transform,
-  other,
-  block_pieces,
-  spelling,
-  transform_form,
-  unicode_form,
-  others_form,
-  private_form,
-  extensions_form,
-  before_t,
-  after_t,
-  printed,
-  tree_text,
-  form_pieces,
-  TreeMeans,
-  IsTreeWellFormed,
-  spelled_transform,
-  spelled_unicode,
-}
+use Rattle.iloc_spec_grammar.specs.Syntax.{Block, code_x, Text, join, AreLengths, languages, SpelledTransform, Unicode, Transform, identifier_pieces}
+use Rattle.iloc_spec_grammar.specs.Tree.{Extension, other, block_pieces, spelling, transform_form, unicode_form, others_form, private_form, extensions_form, before_t, after_t, printed, tree_text, form_pieces, TreeMeans, IsTreeWellFormed, spelled_transform}
 use Rattle.iloc_spec_grammar.specs.Meaning.{Locale, Extensions, Means}
 use Rattle.iloc_spec_grammar.specs.Values.{
   unicode_spelling,
@@ -88,27 +26,16 @@ use Rattle.iloc_spec_grammar.proofs.RawLaws.{languages_table}
 -- each part
 
 pub unicode_spelling_is : (u : Unicode) → unicode_spelling u ≡ form_pieces (unicode_form u)
-unicode_spelling_is u = parts.unicode_spelling_is u
-    ∙ elim (nat_lt 0 (length u.attributes + length u.keywords))
-    as (λ b. cond b ((code_u ∷ []) ∷ unicode_pieces u) []
-    ≡ form_pieces (cond b ((code_u, unicode (spelled_unicode u)) ∷ []) []))
-    [ true ↦ sym (append-nil ((code_u ∷ []) ∷ unicode_pieces u)) | false ↦ refl ]
+unicode_spelling_is u = parts.unicode_spelling_is u ∙ grind (arith, append-nil)
 
 pub transform_spelling_is : (m : Transform) → transform_spelling m ≡ form_pieces (transform_form m)
 transform_spelling_is m =
     let n : SpelledTransform = spelled_transform m in
     parts.transform_spelling_is m
-    ∙ elim (is_some m.id || nat_lt 0 (length m.fields))
-    as (λ b.
-    cond b ((code_t ∷ []) ∷ transform_pieces n) [] ≡ form_pieces (cond b ((code_t, transform n) ∷ []) []))
-    [ true ↦ sym (append-nil ((code_t ∷ []) ∷ transform_pieces n)) | false ↦ refl ]
+    ∙ grind (arith, append-nil)
 
 pub other_spelling_is : (o : Block) → other_spelling o ≡ form_pieces (others_form (o ∷ []))
-other_spelling_is o = parts.other_spelling_is o
-    ∙ elim (nat_lt 0 (length o.1))
-    as (λ b. cond b ((o.0 ∷ []) ∷ o.1) []
-    ≡ form_pieces (map (λ (o : Block). (o.0, other o.1)) (cond b (o ∷ []) [])))
-    [ true ↦ sym (append-nil ((o.0 ∷ []) ∷ o.1)) | false ↦ refl ]
+other_spelling_is o = parts.other_spelling_is o ∙ grind (arith, append-nil)
 
 pub others_spelling_is : (os : List Block) →
     flat_map other_spelling os ≡ form_pieces (others_form os)
@@ -148,12 +75,7 @@ extensions_spelling_is e =
     ++ (unicode_spelling_is e.unicode k
     ++ (others_spelling_is (after_t e.others) k ++ private_spelling_is e.private k))))
     ∙ sym (
-    ap (λ l. l ++ x) (form_pieces-append o (t ++ (u ++ r))
-    ∙ ap (λ l. form_pieces o ++ l)
-    (form_pieces-append t (u ++ r) ∙ ap (λ l. form_pieces t ++ l) (form_pieces-append u r)))
-    ∙ append_assoc (form_pieces o) (form_pieces t ++ (form_pieces u ++ form_pieces r)) x
-    ∙ ap (λ l. form_pieces o ++ l) (append_assoc (form_pieces t) (form_pieces u ++ form_pieces r) x
-    ∙ ap (λ l. form_pieces t ++ l) (append_assoc (form_pieces u) (form_pieces r) x)))
+    search (form_pieces-append, append_assoc))
 
 -- the pieces of a locale, and its text
 

@@ -1,9 +1,9 @@
 -- A sort by keys, and what is left without repeats.
 use Rattle.std.proofs.Common.{arith, ◌≡◌, Bool, true, false, cond, not, ◌||◌, List, [], ◌∷◌, map, filter, refl}
-use Rattle.std.proofs.Common.{ap, ◌∙◌, true≢false}
+use Rattle.std.proofs.Common.{true≢false}
 use Rattle.std.specs.List.{AllByRecursion, list_any}
 use Rattle.std.specs.Ordering.{is_lt, is_eq, eq_by_cmp, ordering_reverse}
-use Rattle.std.specs.Cmp.{IsTotalOrder, eq_by_cmp_equiv}
+use Rattle.std.specs.Cmp.{IsTotalOrder}
 use Rattle.std.specs.declared.cmp.Ordering.{Ordering}
 use Rattle.std.specs.declared.cmp.Ordering.TheVariants.{Less, Equal, Greater}
 use Rattle.std.specs.FinMap.{is_sorted}
@@ -61,26 +61,28 @@ module _ {K X : Type 0} (R : K → K → Ordering) (key : X → K) where
         below_all R k (listed value ys) ≡ true → below_all R k (listed value (put_in x ys)) ≡ true
     below-put_in k x [] p h = and_from _ _ p refl
     below-put_in k x (y ∷ ys) p h =
-        let parts = and_parts _ _ h in
-        cond_both (is_lt (R (key y) (key x))) _ _ (λ zs. below_all R k (listed value zs) ≡ true)
-        (λ _. and_from _ _ parts.0 (below-put_in k x ys p parts.1)) (λ _. and_from _ _ p h)
+        let parts = and_parts _ _ h in grind (arith, below-put_in k x ys p parts.1)
 
     below-trans : (k l : K) (ys : List X) → R k l ≡ Less → below_all R l (listed value ys) ≡ true →
         below_all R k (listed value ys) ≡ true
     below-trans k l [] p h = refl
-    below-trans k l (y ∷ ys) p h = let parts = and_parts _ _ h in
-        and_from _ _ (ap is_lt (o.trans k l (key y) p (less _ parts.0))) (below-trans k l ys p parts.1)
+    below-trans k l (y ∷ ys) p h = let parts = and_parts _ _ h in grind (arith, below-trans k l ys p parts.1)
 
     sorted-put_in : (x : X) (ys : List X) → list_any (eq_by_cmp R (key x)) (map key ys) ≡ false →
         is_sorted R (listed value ys) ≡ true → is_sorted R (listed value (put_in x ys)) ≡ true
     sorted-put_in x [] d h = refl
     sorted-put_in x (y ∷ ys) d h =
         let apart = or_parts _ _ d in let parts = and_parts _ _ h in
-        cond_both (is_lt (R (key y) (key x))) _ _ (λ zs. is_sorted R (listed value zs) ≡ true)
-        (λ e. and_from _ _ (below-put_in (key y) x ys e parts.0) (sorted-put_in x ys apart.1 parts.1)) (λ e.
-        let l : R (key x) (key y) ≡ Less = o.antisymm (key x) (key y)
-        ∙ less _ (turned (R (key y) (key x)) e ((eq_by_cmp_equiv o).symm (key y) (key x) ∙ apart.0)) in
-        and_from _ _ (and_from _ _ (ap is_lt l) (below-trans (key x) (key y) ys l parts.0)) h)
+        grind (
+          arith,
+          cond_both,
+          and_from,
+          below-put_in,
+          sorted-put_in x ys apart.1 parts.1,
+          less,
+          turned,
+          below-trans,
+        )
 
     any-put_in : (test : K → Bool) (x : X) (ys : List X) →
         list_any test (map key (put_in x ys)) ≡ (test (key x) || list_any test (map key ys))
@@ -138,7 +140,7 @@ module _ {X : Type 0} (key : X → Text) where
   different-dedup seen (x ∷ xs) = cond_both (list_any (is_same (lower (key x))) seen) _ _
       (λ l. AllDifferent word_cmp (keys l)) (λ _. different-dedup seen xs) (λ _. (
         both_ways _ (unseen-dedup (lower (key x)) (lower (key x) ∷ seen) xs
-            (or_left _ _ ((eq_by_cmp_equiv word_cmp_total).refl (lower (key x))))),
+            (grind (arith, or_left, word_cmp_total))),
         different-dedup (lower (key x) ∷ seen) xs,
       ))
 

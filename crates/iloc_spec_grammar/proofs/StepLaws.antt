@@ -1,33 +1,13 @@
 -- A step keeps the rules, the meaning and the sums over the pieces.
 use Rattle.std.proofs.Common.{◌≡◌, ℕ, ◌+◌, ◌<◌, Bool, true, false, cond, List, [], ◌∷◌, length, map}
-use Rattle.std.proofs.Common.{filter_map, refl, sym, ap, ◌∙◌, subst, arith, Option, Some, None}
+use Rattle.std.proofs.Common.{filter_map, refl, sym, ap, ◌∙◌, arith, Option, Some, None}
 use Rattle.std.specs.List.{AllByRecursion, list_any, AllZip, cons_option}
 use Rattle.std.specs.Char.{to_ascii_lowercase}
 use Rattle.std.specs.Ordering.{nat_cmp, eq_by_cmp}
 use Rattle.std.specs.Cmp.{nat_cmp_total}
 use Rattle.std.specs.FinMap.{find, nat_cmp-IsAntisymmetric}
 use Rattle.std.proofs.lemmas.Bool.{or_parts, or_from, not-true, both_ways, false_from_ne_true}
-use Rattle.iloc_spec_grammar.specs.Syntax.{
-  LanguageLengths,
-  Field,
-  Block,
-  code_u,
-  code_t,
-  Text,
-  Variant,
-  Attribute,
-  IsWord,
-  lower,
-  word_cmp,
-  is_true,
-  SpelledIdentifier,
-  Fields,
-  IsIdentifier,
-  IsKeyword,
-  IsField,
-  lower_singleton,
-  AllDifferent,
-}
+use Rattle.iloc_spec_grammar.specs.Syntax.{LanguageLengths, Field, Block, code_u, code_t, Text, Attribute, IsWord, lower, word_cmp, is_true, SpelledIdentifier, Fields, IsIdentifier, IsKeyword, IsField, lower_singleton, AllDifferent}
 use Rattle.iloc_spec_grammar.specs.Tree.{
   Extension,
   other,
@@ -78,20 +58,10 @@ pub identifier_step : {T : ℕ → Bool} {r : TreeRule} {i j : SpelledIdentifier
 identifier_step TreeIdentifierStep.same h = (h, refl)
 identifier_step (TreeIdentifierStep.variants {l = l} {s = s} {r = r} {vs = vs} {ws = ws} p) h = (
   record {
-    words = record {
-      language = h.words.language;
-      script = h.words.script;
-      region = h.words.region;
-      variants = all_reordered (IsWord Variant) p h.words.variants;
-    };
+    words = search all_reordered;
     different = different_reordered word_cmp word_cmp_total (map_reordered lower p) h.different;
   },
-  λ k. record {
-    language = lower l;
-    script = (normal_identifier (record { language = l; script = s; region = r; variants = vs })).script;
-    region = (normal_identifier (record { language = l; script = s; region = r; variants = vs })).region;
-    variants = sym (set_of_reordered (map_reordered lower p)) k;
-  },
+  grind (arith, set_of_reordered, map_reordered),
 )
 
 -- fields
@@ -111,19 +81,17 @@ values_without (Without.stays {x = x} r) = simp (values_without r)
 values_without (Without.left_out {x = x} {xs = xs} e r) = search (values_without r)
 
 entries_less : (fs gs : Fields) → AllZip TreeLessTrue fs gs → map entry fs ≡ map entry gs
-entries_less = map-zip TreeLessTrue entry entry (λ f g z i. (lower (z.0 i), values_without z.1 i))
+entries_less = grind (arith, map-zip, values_without)
 
 keywords_less : (fs gs : Fields) → AllZip TreeLessTrue fs gs → AllByRecursion IsKeyword fs →
     AllByRecursion IsKeyword gs
-keywords_less = all_zip TreeLessTrue IsKeyword IsKeyword
-    (grind (arith, all_without))
+keywords_less = grind (arith, all_zip, all_without)
 
 abbrev LessKept : Field → Field → Type 0
 LessKept f g = TreeLessTrue f g × (0 < length g.1)
 
 fields_less : (fs gs : Fields) → AllZip LessKept fs gs → AllByRecursion IsField fs → AllByRecursion IsField gs
-fields_less = all_zip LessKept IsField IsField
-    (grind (arith, all_without))
+fields_less = grind (arith, all_zip, all_without)
 
 -- leaving out repeats leaves something, where nothing was seen
 some_left : {X : Type 0} (key : X → Text) {xs ys : List X} → WithoutRepeats key [] xs ys → 0 < length xs →
@@ -169,14 +137,9 @@ fields_step T c i fs gs k n q h = grind arith
 pub extension_step : (T : LanguageLengths) {r : TreeRule} {e f : Extension} (c : ℕ) → ExtensionStep r e f →
     IsExtension T c e → IsExtension T c f × SameParts e f
 extension_step T c ExtensionStep.same h = search
-extension_step T c (ExtensionStep.identifier {fs = fs} s) h =
-    let p = identifier_step s h.1.id in (
-      (h.0, record { id = p.0; fields = h.1.fields; nonempty = λ e. cc }),
-      record { u = refl; t = λ k. record { id = Some (p.1 k); fields = normal_fields fs }; o = λ c. refl },
-    )
+extension_step T c (ExtensionStep.identifier {fs = fs} s) h = let p = identifier_step s h.1.id in grind arith
 extension_step T c (ExtensionStep.attribute_order {vs = vs} {ws = ws} {fs = fs} r) h =
-    unicode_step T c vs ws fs fs (all_reordered (IsWord Attribute) r) (λ k. k)
-    (λ n. let l = length_reordered r in omega arith) (sym (set_of_reordered (map_reordered lower r))) refl h
+    grind (arith, unicode_step, all_reordered, length_reordered, set_of_reordered, map_reordered)
 extension_step T c (ExtensionStep.keyword_order {vs = vs} {fs = fs} {gs = gs} d r) h =
     grind (arith, unicode_step, all_reordered, length_reordered, fields_reordered)
 extension_step T c (ExtensionStep.field_order {i = i} {fs = fs} {gs = gs} d r) h =
@@ -190,9 +153,7 @@ extension_step T c (ExtensionStep.transform_repeats {i = i} {fs = fs} {gs = gs} 
     fields_step T c i fs gs (all_repeats IsField (λ f. f.0) s) (some_left (λ f. f.0) s)
     (sym (map_repeats (λ f. f.0) (λ f. normal_values f.1) s)) h
 extension_step T c (ExtensionStep.unicode_trues {vs = vs} {fs = fs} {gs = gs} z) h =
-    unicode_step T c vs vs fs gs (λ a. a) (keywords_less fs gs z)
-    (λ n. let l = AllZip-long TreeLessTrue fs gs z in omega arith) refl
-    (ap (map_of word_cmp) (sym (entries_less fs gs z))) h
+    grind (arith, unicode_step, keywords_less, AllZip-long, entries_less)
 extension_step T c (ExtensionStep.transform_trues {i = i} {fs = fs} {gs = gs} z) h =
     fields_step T c i fs gs (fields_less fs gs z) (λ n. let l = AllZip-long LessKept fs gs z in omega arith)
     (ap (map_of word_cmp)
@@ -244,8 +205,7 @@ others_step T r _ _ z h = absurd z
 find_blocks : {es fs : List (ℕ × Extension)} → Reordered es fs →
     AllDifferent nat_cmp (map (λ e. lower_singleton e) es) → (q : ℕ) →
     find nat_cmp q (by_singleton es) ≡ find nat_cmp q (by_singleton fs)
-find_blocks {es = es} r d q = find_reordered nat_cmp nat_cmp_total q
-    (map_reordered (λ (e : ℕ × Extension). (lower_singleton e, e.1)) r) (search map-map)
+find_blocks {es = es} r d q = find_reordered nat_cmp nat_cmp_total q (search map_reordered) (search map-map)
 
 filter_map_reordered : {X Y : Type 0} (h : X → Option Y) {xs ys : List X} → Reordered xs ys →
     Reordered (filter_map h xs) (filter_map h ys)
@@ -319,23 +279,19 @@ pub written_step : (T : LanguageLengths) {v w : Written} → Step v w → IsWrit
 written_step T (Step.block_order {i = i} {es = es} {fs = fs} {x = x} r) h = (
   record {
     id = h.id;
-    extensions = all_reordered (λ e. IsExtension T (lower_singleton e) e.1) r h.extensions;
+    extensions = search all_reordered;
     different = different_reordered nat_cmp nat_cmp_total
-        (map_reordered (λ (e : ℕ × Extension). lower_singleton e) r) h.different;
+        (search map_reordered) h.different;
     private = h.private;
   },
-  same_parts (record { id = i; extensions = fs; private = x })
-      (record { id = i; extensions = es; private = x }) refl
-      (ap unicode_part (sym (find_blocks r h.different code_u)))
-      (ap transform_part (sym (find_blocks r h.different code_t))) refl
-      (sym (others_reordered r h.different)),
+  grind (arith, same_parts, find_blocks, others_reordered),
 )
 written_step T (Step.inside r {i = i} {j = j} {es = es} {fs = fs} {x = x} s z) h =
     let p = identifier_step s h.id in (
       record {
         id = p.0;
         extensions = rules_step T r es fs z h.extensions;
-        different = subst (AllDifferent nat_cmp) (grind (arith, map-zip)) h.different;
+        different = grind (arith, map-zip);
         private = h.private;
       },
       same_parts (record { id = j; extensions = fs; private = x })

@@ -1,5 +1,5 @@
 -- A step lengthens no text, and makes no hyphen.
-use Rattle.std.proofs.Common.{◌≡◌, ℕ, false, ◌+◌, ◌<◌, ◌≤◌, Bool, cond, ◌==◌, List, [], ◌∷◌, length, map}
+use Rattle.std.proofs.Common.{◌≡◌, ℕ, false, ◌+◌, ◌≤◌, Bool, cond, ◌==◌, List, [], ◌∷◌, length, map}
 use Rattle.std.proofs.Common.{flat_map, refl, arith, option_to_list, le_refl, length-append}
 use Rattle.std.specs.List.{AllByRecursion, list_any}
 use Rattle.std.proofs.lemmas.List.Concat.{flat_map-append}
@@ -59,25 +59,17 @@ module _ (f : Text → ℕ) where
       total f (extension_pieces g) ≤ total f (extension_pieces e)
   extension_size ExtensionStep.same = le_refl _
   extension_size (ExtensionStep.identifier {i = i} {j = j} {fs = fs} s) =
-      let a = total-append f (identifier_pieces i) (fields_pieces fs) in
-      let b = total-append f (identifier_pieces j) (fields_pieces fs) in
-      let c = identifier_size s in omega arith
+      grind (arith, total-append, identifier_size)
   extension_size (ExtensionStep.attribute_order r) =
       let c = total_reordered f r in omega (arith, total-append f)
-  extension_size (ExtensionStep.keyword_order d r) =
-      let g = total_reordered field_size r in omega (arith, total-append f, fields_size)
-  extension_size (ExtensionStep.field_order d r) =
-      let g = total_reordered field_size r in omega (arith, total-append f, fields_size)
-  extension_size (ExtensionStep.unicode_repeats r s) = let g = total_repeats f (λ a. a) r in
-      let h = total_repeats field_size (λ k. k.0) s in omega (arith, total-append f, fields_size)
-  extension_size (ExtensionStep.transform_repeats s) =
-      let h = total_repeats field_size (λ k. k.0) s in omega (arith, total-append f, fields_size)
+  extension_size (ExtensionStep.keyword_order d r) = grind (arith, total_reordered, total-append, fields_size)
+  extension_size (ExtensionStep.field_order d r) = grind (arith, total_reordered, total-append, fields_size)
+  extension_size (ExtensionStep.unicode_repeats r s) = grind (arith, total_repeats, total-append, fields_size)
+  extension_size (ExtensionStep.transform_repeats s) = grind (arith, total_repeats, total-append, fields_size)
   extension_size (ExtensionStep.unicode_trues {fs = fs} {gs = gs} z) =
-      let h = total_zip field_size TreeLessTrue less_size fs gs z in
-      omega (arith, total-append f, fields_size)
-  extension_size (ExtensionStep.transform_trues {fs = fs} {gs = gs} z) = let h = total_zip field_size
-      (λ j k. TreeLessTrue j k × (0 < length k.1)) (λ j k z. less_size j k z.0) fs gs z in
-      omega (arith, total-append f, fields_size)
+      grind (arith, total_zip, less_size, total-append, fields_size)
+  extension_size (ExtensionStep.transform_trues {fs = fs} {gs = gs} z) =
+      grind (arith, total_zip, less_size, total-append, fields_size)
   extension_size (ExtensionStep.dropped_pieces w) = total_without f _ w
 
   abbrev block_size : ℕ × Extension → ℕ

@@ -221,30 +221,25 @@ AreKeywordValues ks = AllByRecursion (λ f. AllByRecursion (λ w. (is_true w ≡
 pub value_unicode : (u : Unicode) → IsUnicodeValue u → AreKeywordValues u.keywords →
     0 < length u.attributes + length u.keywords → IsUnicodeBlock (spelled_unicode u)
 value_unicode u h v n = record {
-  attributes = all_weaker (IsNormal Attribute) (IsWord Attribute) (λ w n. n.0) u.attributes h.attributes;
+  attributes = grind (arith, all_weaker);
   keywords = all_weaker (λ f. (IsNormal UnicodeKey f.0 × AllByRecursion (IsNormal Subtag) f.1)
       × AllByRecursion (λ w. (is_true w ≡ false) × (length w ≢ 2)) f.1) IsKeyword
-      (λ f b. ((
-        b.0.0.0,
-        all_weaker (λ w. IsNormal Subtag w × ((is_true w ≡ false) × (length w ≢ 2)))
-            (IsWord Attribute) (λ w n. attribute_from w n.0.0 n.1.1) f.1 (all_both _ _ f.1 b.0.1 b.1),
-      ))) u.keywords (all_both _ _ u.keywords h.keywords v);
+      (grind (arith, all_weaker, attribute_from, all_both)) u.keywords (all_both _ _ u.keywords h.keywords v);
   nonempty = n;
 }
 
 pub normal_value_unicode : (u : Unicode) → IsUnicodeValue u → AreKeywordValues u.keywords →
     normal_unicode (spelled_unicode u) ≡ u
 normal_value_unicode u h v =
-    let attributes : set_of (map lower u.attributes) ≡ u.attributes = ap set_of (map_fixed lower u.attributes
-    (all_weaker (IsNormal Attribute) (λ w. lower w ≡ w) (λ w n. n.1) u.attributes h.attributes))
-    ∙ set_of_ascending u.attributes h.ascending in
+    let attributes : set_of (map lower u.attributes) ≡ u.attributes = grind (
+      arith,
+      map_fixed,
+      all_weaker,
+      set_of_ascending,
+    ) in
     let keywords : normal_fields u.keywords ≡ u.keywords = fields_fixed u.keywords h.keys_ascend
-    (all_weaker (λ f. (IsNormal UnicodeKey f.0 × AllByRecursion (IsNormal Subtag) f.1)
-    × AllByRecursion (λ w. (is_true w ≡ false) × (length w ≢ 2)) f.1)
-    (λ f. (lower f.0 ≡ f.0) × (normal_values f.1 ≡ f.1))
-    (λ f b. (grind (arith, values_fixed, all_weaker))) u.keywords
-    (all_both _ _ u.keywords h.keywords v)) in
-    λ i. record { attributes = attributes i; keywords = keywords i }
+    (grind (arith, all_weaker, values_fixed, all_both)) in
+    grind arith
 
 -- the transform part
 

@@ -30,40 +30,7 @@ use Rattle.std.specs.Cmp.{nat_cmp_total}
 use Rattle.std.specs.FinMap.{find, nat_cmp-IsAntisymmetric}
 use Rattle.std.proofs.lemmas.Bool.Decides.{nat_tests}
 use Rattle.std.proofs.lemmas.Str.Ascii.{lowercase-lowercase}
-use Rattle.iloc_spec_grammar.specs.Syntax.{
-  LanguageLengths,
-  Field,
-  Block,
-  code_x,
-  code_u,
-  code_t,
-  Text,
-  Kind,
-  Language,
-  Script,
-  Region,
-  Subtag,
-  UnicodeKey,
-  Attribute,
-  PrivateSubtag,
-  is_word,
-  IsWord,
-  normal,
-  lower,
-  word_cmp,
-  is_true,
-  SpelledIdentifier,
-  SpelledUnicode,
-  SpelledTransform,
-  Fields,
-  HasWords,
-  IsKeyword,
-  IsOther,
-  kept,
-  is_other_singleton,
-  lower_singleton,
-  IsPrivate,
-}
+use Rattle.iloc_spec_grammar.specs.Syntax.{LanguageLengths, Field, Block, code_x, code_u, code_t, Text, Kind, Subtag, UnicodeKey, Attribute, PrivateSubtag, is_word, IsWord, normal, lower, word_cmp, is_true, SpelledIdentifier, SpelledUnicode, SpelledTransform, Fields, HasWords, IsKeyword, IsOther, kept, is_other_singleton, lower_singleton, IsPrivate}
 use Rattle.iloc_spec_grammar.specs.Tree.{
   Extension,
   unicode,
@@ -130,17 +97,12 @@ all_normal k ws e =
 
 pub option_normal : (k : Kind) (o : Option Text) → IfSome o (IsWord k) →
     IfSome (option_map (normal k) o) (IsNormal k)
-option_normal k = some_mapped (IsWord k) (IsNormal k) (normal k) (IsNormal-normal k)
+option_normal k = search (some_mapped, IsNormal-normal)
 
 pub identifier_value : {T : ℕ → Bool} (i : SpelledIdentifier) → HasWords T i →
     IsIdentifierValue T (normal_identifier i)
-identifier_value {T = T} i h = record {
-  language = IsNormal-normal (Language T) i.language h.language;
-  script = option_normal Script i.script h.script;
-  region = option_normal Region i.region h.region;
-  variants = search (all-set_of, all_normal);
-  ascending = set_of-ascending (map lower i.variants);
-}
+identifier_value {T = T} i h =
+    search (IsNormal-normal, option_normal, all-set_of, all_normal, set_of-ascending)
 
 -- a value: a word of 3 to 8 letters or digits, not `true`
 abbrev IsPlain : Text → Type 0
@@ -191,11 +153,15 @@ unicode_value u h =
 
 pub transform_value : (T : LanguageLengths) (m : SpelledTransform) → IsTransformBlock T m →
     IsTransformValue T (normal_transform m)
-transform_value T m h = record {
-  id = grind (arith, some_mapped, identifier_value);
-  fields = grind (arith, field_entries, plain_fields);
-  keys_ascend = simp (is_sorted-map_of, word_cmp_total);
-}
+transform_value T m h = grind (
+  arith,
+  some_mapped,
+  identifier_value,
+  field_entries,
+  plain_fields,
+  is_sorted-map_of,
+  word_cmp_total,
+)
 
 -- what a look-up finds
 
@@ -268,7 +234,7 @@ module _ {T : ℕ → Bool} (w : Written) (h : IsWritten T w) where
   written_well_formed = record {
     ascending = is_sorted-map_of nat_cmp nat_cmp_total (filter_map other_part (by_singleton w.extensions));
     singletons = grind (arith, all_weaker, others);
-    nonempty = all_weaker IsOtherEntry (λ o. 0 < length o.1) (λ o x. x.1) _ others;
+    nonempty = grind (arith, all_weaker, others);
     values = part_well T _ (rules code_u);
   }
 

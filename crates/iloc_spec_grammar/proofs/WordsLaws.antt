@@ -92,7 +92,7 @@ unfolding is_word lower
 is_word-lower (Language T) p = ap₂ ◌&&◌ (ap T (length-lower p)) (list_all-mapped _ _ _ alphabetic-lower p)
 is_word-lower Script p = grind (arith, ap₂, length-lower, list_all-mapped, alphabetic-lower)
 is_word-lower Region p =
-    ap₂ ◌||◌ (ap₂ ◌&&◌ (ap (λ n. n == 2) (length-lower p)) (list_all-mapped _ _ _ alphabetic-lower p))
+    ap₂ ◌||◌ (grind (arith, length-lower, list_all-mapped, alphabetic-lower))
     (ap₂ ◌&&◌ (ap (λ n. n == 3) (length-lower p)) (list_all-mapped _ _ _ digit-lower p))
 is_word-lower Variant p = ap₂ ◌&&◌
     (ap₂ ◌||◌ (ap (is_in_range 5 8) (length-lower p))
@@ -187,8 +187,7 @@ first_letter (c ∷ p) h = (and_parts _ _ ((and_parts _ _ h).1)).0
 
 pub variant_no_script : (p : Text) → IsWord Variant p → is_word Script p ≡ false
 unfolding is_word
-variant_no_script p h = false_from_ne_true _ (λ s. let a = first_letter p s in
-    let b = digit_no_letter (slice_index p 0) (grind (arith, nat_tests)) in cc)
+variant_no_script p h = false_from_ne_true _ (λ s. let a = first_letter p s in grind arith)
 
 -- each byte of a word is a letter or a digit
 

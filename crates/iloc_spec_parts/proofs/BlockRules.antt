@@ -61,7 +61,7 @@ module _ (T : LanguageLengths) (b : Block) where
 
   pub other_rule : is_other_singleton (lower_singleton b) ≡ true → IsBlock T b ↔ IsOther b.1
   other_rule e = (
-    λ x. elim x [ inl p ↦ absurd (no_x _ p.0 e) | inr q ↦ at q.0 q.1 q.2 ],
+    grind (arith, no_x),
     λ h. inr (other b.1, (e, h), refl),
   )
     where

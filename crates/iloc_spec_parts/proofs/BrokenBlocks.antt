@@ -1,5 +1,5 @@
 -- Blocks that break their rule before anything is kept of them.
-use Rattle.std.proofs.Common.{◌≡◌, ℕ, Bool, true, false, List, [], ◌∷◌, refl, sym, ap, ◌∙◌, arith, true≢false}
+use Rattle.std.proofs.Common.{◌≡◌, ℕ, Bool, true, false, List, [], ◌∷◌, refl, sym, ap, arith, true≢false}
 use Rattle.std.specs.List.{AllByRecursion}
 use Rattle.std.proofs.lemmas.Bool.{and_parts, false_from_ne_true, not-true}
 use Rattle.iloc_spec_grammar.specs.Syntax.{
@@ -28,7 +28,7 @@ use Rattle.iloc_spec_parts.specs.Inline.{IsShortUnicode, IsShortTransform, IsSho
 -- after `u`
 
 pub two_no_attribute : (p : Text) → is_two p ≡ true → is_word Attribute p ≡ false
-two_no_attribute p two = false_from_ne_true _ (λ h. true≢false (sym two ∙ not_two p h))
+two_no_attribute p two = grind (arith, false_from_ne_true, not_two)
 
 none_kept : (p : Text) (qs : List Text) → is_two p ≡ true → is_word UnicodeKey p ≡ false →
     keywords_kept (p ∷ qs) ≡ []
@@ -45,7 +45,7 @@ bad_unicode (p ∷ ps) h = let parts = and_parts _ _ h in short_at p ps parts.0 
 -- after `t`
 
 key_is_no_language : (T : LanguageLengths) (k : Text) → IsWord TransformKey k → is_word (Language T) k ≡ false
-key_is_no_language T k key = false_from_ne_true _ (λ l. true≢false (sym key ∙ language_no_key T k l))
+key_is_no_language T k key = grind (arith, false_from_ne_true, language_no_key)
 
 pub bad_transform : {T : ℕ → Bool} (ps : List Text) → IsWord TransformKey (first_piece ps) →
     is_word Attribute (first_piece (rest_of ps)) ≡ false → IsShortTransform T ps

@@ -32,23 +32,9 @@ use Rattle.std.proofs.Common.{
   append_assoc,
   append-nil,
 }
-use Rattle.std.specs.Result.{result_ok}
 use Rattle.std.proofs.lemmas.Bool.{cond_both}
 use Rattle.std.proofs.lemmas.Bool.Decides.{nat_tests}
-use Rattle.iloc_spec_grammar.specs.Syntax.{
-  Text,
-  Region,
-  Subtag,
-  UnicodeKey,
-  Attribute,
-  SubdivisionSuffix,
-  is_word,
-  IsWord,
-  AreLengths,
-  lower,
-  is_same,
-  is_true,
-}
+use Rattle.iloc_spec_grammar.specs.Syntax.{Text, Region, Subtag, UnicodeKey, Attribute, SubdivisionSuffix, is_word, IsWord, AreLengths, lower, is_true}
 use Rattle.iloc_spec_grammar.specs.Meaning.{Locale, Fault, InvalidExtension}
 use Rattle.iloc_spec_grammar.specs.Values.{IsNormal, IsValue, IsWellFormed, extensions_spelling, text}
 use Rattle.iloc_spec_grammar.proofs.MapLaws.{same_itself, same_is}
@@ -56,29 +42,9 @@ use Rattle.iloc_spec_grammar.proofs.WordsLaws.{is_word-lower, lower-lower}
 use Rattle.iloc_spec_grammar.proofs.Corollaries.{same_text_same_value}
 use Rattle.iloc_spec_parts.specs.Small.{SmallIdentifier, SmallLocale, IsSmall, HasSmallFault, IsSmallValue}
 use Rattle.iloc_spec_grammar.specs.Reading.{first_item}
-use Rattle.iloc_spec_parts.specs.Subdivisions.{Subdivision, subdivision, subdivision_text, IsSubdivision}
+use Rattle.iloc_spec_parts.specs.Subdivisions.{Subdivision, subdivision_text, IsSubdivision}
 use Rattle.iloc_spec_parts.specs.DataComputing.{data_of_result, data_result}
-use Rattle.iloc_spec_parts.specs.DataLocales.{
-  DataLocale,
-  IsDataLocale,
-  whole,
-  whole_region,
-  is_whole,
-  named_subdivision,
-  made_of,
-  agreed,
-  small_part,
-  data_of_small,
-  DataMeans,
-  HasDataFault,
-  not_small,
-  no_subdivision,
-  subdivision_value,
-  subdivision_keyword,
-  data_text,
-  small_of_data,
-  locale_of_data,
-}
+use Rattle.iloc_spec_parts.specs.DataLocales.{DataLocale, IsDataLocale, whole, whole_region, is_whole, named_subdivision, made_of, agreed, small_part, data_of_small, DataMeans, HasDataFault, not_small, no_subdivision, subdivision_value, data_text, small_of_data, locale_of_data}
 use Rattle.iloc_spec_parts.proofs.Keys.{sd}
 use Rattle.iloc_spec_parts.proofs.SmallLaws.{one_small, small_answer, small_apart, one_small_fault, by_result}
 use Rattle.iloc_spec_parts.specs.SmallComputing.{small_result}
@@ -176,26 +142,7 @@ keyword_words (Some w) h = grind (arith, cond_both, read_is_long)
 pub small_value_of_data : {T : ℕ → Bool} (d : DataLocale) → IsDataLocale T d →
     IsSmallValue T (small_of_data d)
 small_value_of_data d h =
-    let parts = parts_are (subdivision_keyword d) (keyword_words d.subdivision h.subdivision) in
-    record {
-      language = h.language;
-      script = h.script;
-      region = h.region;
-      variant = h.variant;
-      key = parts.0;
-      value = parts.1;
-    }
-  where
-    parts_are : (o : Option Text) → IsKeywordOf o →
-        IfSome (keyword_by o) (λ k. IsNormal UnicodeKey k.0)
-        × IfSome (keyword_by o) (λ k. IfSome k.1 (λ w. IsNormal Attribute w × (is_true w ≡ false)))
-    parts_are None k = (tt, tt)
-    parts_are (Some w) k = (
-      sd_key,
-      cond_both (is_true (lower w)) _ _
-          (λ ws. IfSome (first_item ws) (λ w. IsNormal Attribute w × (is_true w ≡ false))) (λ e. tt)
-          (λ e. ((is_word-lower Attribute w ∙ attribute_from w k.0 k.1, lower-lower w), e)),
-    )
+    grind (arith, keyword_words, sd_key, cond_both, is_word-lower, attribute_from, lower-lower)
 
 -- the locale that a data locale becomes is a value, and well-formed
 pub locale_of_data_is_value : {T : ℕ → Bool} (d : DataLocale) → IsDataLocale T d →
@@ -235,26 +182,13 @@ parts_read : (region : Option Text) (k : Option (Text × Option Text)) →
     IfSome (small_part region k) (λ part. IfSome part IsReadPart)
 parts_read None None h v = tt
 parts_read (Some r) None h v = whole_part r h
-parts_read region (Some (k, o)) h v = elim (is_same k sd)
-    as (λ b.
-    IfSome (cond b (option_map (λ s. Some (agreed region s)) (option_and_then named_subdivision o)) None)
-    (λ part. IfSome part IsReadPart)) [ true ↦ at_value o v | false ↦ tt ]
-  where
-    at_value : (o : Option Text) → IfSome o (λ w. IsNormal Attribute w × (is_true w ≡ false)) →
-        IfSome (option_map (λ s. Some (agreed region s)) (option_and_then named_subdivision o))
-        (λ part. IfSome part IsReadPart)
-    at_value None v = tt
-    at_value (Some w) v = elim (subdivision w) as (λ r. subdivision w ≡ r →
-        IfSome (option_map (λ s. Some (agreed region s)) (result_ok r)) (λ part. IfSome part IsReadPart)) [
-          | Err f ↦ λ e. tt
-          | Ok s ↦ λ e. agreed_part region s h
-              (read_is_subdivision w s e, λ k. ap is_true (text_of_read w s e ∙ v.0.1) ∙ v.1)
-        ] refl
+parts_read region (Some (k, o)) h v =
+    grind (arith, sd, option_and_then, agreed_part, read_is_subdivision, text_of_read)
 
 read_made : {T : ℕ → Bool} (t : Text) (d : DataLocale) (h : DataMeans T t d) → MadeOf h.small.id d
 read_made t d h = let v = read_is_small_value t h.small h.is_small in
     from (small_part h.small.id.region h.small.keyword)
-    (parts_read h.small.id.region h.small.keyword v.region v.value) h.means
+    (search parts_read) h.means
   where
     from : (o : Option (Option Subdivision)) → IfSome o (λ part. IfSome part IsReadPart) →
         option_map (λ part. made_of h.small.id.language h.small.id.script part h.small.id.variant) o

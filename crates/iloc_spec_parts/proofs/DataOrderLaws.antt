@@ -1,4 +1,5 @@
 -- The orders of subdivisions and data locales are total; data locales tie where they stand for the same.
+use Rattle.std.proofs.Common.{arith}
 use Rattle.std.proofs.Common.{◌≡◌, ◌↔◌, Option, refl}
 use Rattle.std.specs.declared.cmp.Ordering.TheVariants.{Equal}
 use Rattle.std.specs.Cmp.{IsTotalOrder, on_total}
@@ -10,8 +11,7 @@ use Rattle.iloc_spec_parts.proofs.OrderLaws.{on_exact, pair_exact, option_exact,
 use Rattle.iloc_spec_grammar.specs.Syntax.{Text}
 
 pub subdivision_exact : IsExactOrder subdivision_cmp
-subdivision_exact = on_exact {Y = Text × Text} (λ s. (s.region, s.suffix))
-    (λ p. record { region = p.0; suffix = p.1 }) (λ s. refl) (pair_exact word_exact word_exact)
+subdivision_exact = grind (arith, on_exact, pair_exact, word_exact)
 
 key_exact : IsExactOrder data_key_cmp
 key_exact = on_exact {Y = Text × (Option Text × (Option Subdivision × Option Text))}

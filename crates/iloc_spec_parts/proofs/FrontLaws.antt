@@ -102,17 +102,21 @@ use Rattle.std.proofs.Math.Bool.{or-true, and-false}
 one_keywords : (ps : List Text) (v w : Fields) (rest more : List Text) → KeywordsRead ps v rest →
     KeywordsRead ps w more → (v ≡ w) × (rest ≡ more)
 one_keywords ps v w rest more a b =
-    let same : a.written ≡ b.written = sym (fields_read is_two a.written (keywords_pass a.written a.keywords))
+    let same : a.written ≡ b.written = sym (search (fields_read, keywords_pass))
     ∙ ap (fields_from is_two) (sym a.spelled ∙ b.spelled)
     ∙ fields_read is_two b.written (keywords_pass b.written b.keywords) in
-    (a.means ∙ ap normal_fields same ∙ sym b.means, a.left ∙ sym b.left)
+    search
 
 good_pieces : (ps : List Text) → AllByRecursion (λ p. is_keyword_piece p ≡ true) ps →
     list_any is_bad_key ps ≡ false →
     AllByRecursion (λ p. (is_two p ≡ true → IsWord UnicodeKey p) × (is_two p ≡ false → IsWord Attribute p)) ps
 good_pieces [] h n = tt
-good_pieces (p ∷ ps) h n = let parts = or_parts (is_bad_key p) (list_any is_bad_key ps) n in
-    ((λ e. not-false _ (rw e at parts.0), λ e. rw e at h.0), good_pieces ps h.1 parts.1)
+good_pieces (p ∷ ps) h n = grind (
+  arith,
+  or_parts,
+  not-false,
+  good_pieces ps h.1 (or_parts (is_bad_key p) (list_any is_bad_key ps) n).1,
+)
 
 pub good_key : (p : Text) → IsWord UnicodeKey p → is_bad_key p ≡ false
 good_key p h = ap (λ b. is_two p && not b) h ∙ and-false (is_two p)
@@ -124,7 +128,7 @@ keywords_no_fault : (fs : Fields) → AllByRecursion IsKeyword fs →
     list_any is_bad_key (fields_pieces fs) ≡ false
 keywords_no_fault [] h = refl
 keywords_no_fault (f ∷ fs) h = none_bad (f.0 ∷ f.1) (fields_pieces fs)
-    (good_key f.0 h.0.0, all_weaker (IsWord Attribute) (λ p. is_bad_key p ≡ false) good_value f.1 h.0.1)
+    (grind (arith, good_key, all_weaker, good_value))
     (keywords_no_fault fs h.1)
   where
     none_bad : (xs ys : List Text) → AllByRecursion (λ p. is_bad_key p ≡ false) xs →
@@ -165,7 +169,7 @@ one_unicode : (ps : List Text) (v w : Unicode) (rest more : List Text) → Unico
 one_unicode ps v w rest more a b =
     let k =
     one_keywords (after_attributes ps) v.keywords w.keywords rest more a.keywords_are b.keywords_are in
-    (λ i. record { attributes = (a.attributes_are ∙ sym b.attributes_are) i; keywords = k.0 i }, k.1)
+    grind arith
 
 none_of : (xs ys : List Text) → nat_lt 0 (length xs + length ys) ≡ false → (xs ≡ []) × (ys ≡ [])
 none_of xs ys h = grind (arith, nat_tests, nil_from_length)
@@ -216,13 +220,11 @@ unicode_whole ps u rest h s =
     let a = attributes_front ps in
     let front_pieces = keywords_front (after_attributes ps) in
     let all : ps ≡ (a ++ front_pieces) ++ rest =
-    sym (append_assoc a front_pieces rest ∙ ap (λ l. a ++ (front_pieces ++ l)) k.left
-    ∙ ap (λ l. a ++ l) (all_from_pieces is_two is_keyword_piece (after_attributes ps))
-    ∙ all_while (is_word Attribute) ps) in
+    grind (arith, append_assoc, all_from_pieces, all_while) in
     let long = all_append IsLong a front_pieces
-    (all_weaker (IsWord Attribute) IsLong long_attribute a (passing_all (is_word Attribute) ps))
+    (grind (arith, all_weaker, IsLong, long_attribute, passing_all))
     (all_weaker (λ p. is_keyword_piece p ≡ true) IsLong long_keyword_piece front_pieces
-    (passing_from_all is_two is_keyword_piece (after_attributes ps))) in
+    (search passing_from_all)) in
     let ends = until_block (a ++ front_pieces) rest long s in (
       record {
         written = record { attributes = a; keywords = k.written };
@@ -233,7 +235,7 @@ unicode_whole ps u rest h s =
               (rw k.spelled at h.nonempty);
         };
         spelled = ap front all ∙ ends.0 ∙ ap (λ l. a ++ l) k.spelled;
-        means = λ i. record { attributes = h.attributes_are i; keywords = k.means i };
+        means = grind arith;
       },
       sym (ap from_block all ∙ ends.1),
     )
@@ -301,10 +303,7 @@ unicode_taken w rest g e = record {
 -- the keywords are those that were spelled
 pub keywords_taken : (w : SpelledUnicode) (rest : List Text) → IsUnicode w → starts_block rest ≡ true →
     fields_from is_two (keywords_front (after_attributes (unicode_pieces w ++ rest))) ≡ w.keywords
-keywords_taken w rest g e =
-    let t = unicode_taken w rest g e in
-    ap (fields_from is_two) (ap keywords_front t.after ∙ t.keywords)
-    ∙ fields_read is_two w.keywords (keywords_pass w.keywords g.keywords)
+keywords_taken w rest g e = let t = unicode_taken w rest g e in grind (arith, fields_read, keywords_pass)
 
 unicode_spelled : (w : SpelledUnicode) (rest : List Text) → IsUnicodeBlock w → starts_block rest ≡ true →
     UnicodeRead (unicode_pieces w ++ rest) (normal_unicode w) rest
@@ -312,13 +311,7 @@ unicode_spelled w rest g e =
     let t = unicode_taken w rest (record { attributes = g.attributes; keywords = g.keywords }) e in
     record {
       attributes_are = ap (λ l. set_of (map lower l)) (sym t.attributes);
-      keywords_are = rw t.after (record {
-        written = w.keywords;
-        keywords = g.keywords;
-        spelled = t.keywords;
-        means = refl;
-        left = sym t.left;
-      });
+      keywords_are = rw t.after (grind arith);
       nonempty = rw (sym ((λ i. length (t.attributes i) + length (keywords_front (t.after i)))
           ∙ ap (λ l. length w.attributes + length l) t.keywords))
           at ((some_pieces (length w.attributes) w.keywords).1 g.nonempty);
@@ -328,12 +321,12 @@ unicode_block : (ps : List Text) (u : Unicode) → UnicodeMeans (front ps) u →
     UnicodeRead ps u (from_block ps)
 unicode_block ps u h =
     let pieces_are : unicode_pieces h.written ++ from_block ps ≡ ps =
-    ap (λ l. l ++ from_block ps) (sym h.spelled) ∙ front-from_block ps in
+    grind (arith, front-from_block) in
     subst (λ (v : Unicode). UnicodeRead ps v (from_block ps)) (sym h.means)
     (rw pieces_are at (unicode_spelled h.written (from_block ps) h.grammatical (from_block_starts ps)))
 
 pub unicode_agrees : AgreesWithBlocks UnicodeRead UnicodeFault UnicodeMeans
-unicode_agrees = agreeing UnicodeRead UnicodeFault UnicodeMeans unicode_reader unicode_whole unicode_block
+unicode_agrees = search (agreeing, unicode_reader, unicode_whole, unicode_block)
 
 -- after other singletons
 
@@ -350,19 +343,17 @@ one_other_fault : (ps : List Text) (f g : Fault) → OtherFault ps f → OtherFa
 one_other_fault ps f g (no_word n) (no_word m) = refl
 
 pub other_reader : IsReader OtherRead OtherFault
-other_reader = reader_of OtherRead OtherFault other_result other_answer
-    (λ ps v w rest more a b. (a.means ∙ sym b.means, a.left ∙ sym b.left)) other_apart one_other_fault
+other_reader =
+    reader_of OtherRead OtherFault other_result other_answer (grind arith) other_apart one_other_fault
 
 other_whole : (ps ws rest : List Text) → OtherRead ps ws rest → starts_block rest ≡ true →
     OtherMeans (front ps) ws × (rest ≡ from_block ps)
 other_whole ps ws rest h s =
     let all : ps ≡ other_front ps ++ rest =
-    sym (ap (λ l. other_front ps ++ l) h.left ∙ all_while has_other_length ps) in
+    grind (arith, all_while) in
     let ends = until_block (other_front ps) rest
-    (all_weaker (λ p. has_other_length p ≡ true) IsLong long_between (other_front ps)
-    (passing_all has_other_length ps)) s in
-    let e : other_front ps ≡ front ps = sym (ap front all ∙ ends.0) in
-    ((subst IsOther e h.follows, h.means ∙ ap kept e), sym (ap from_block all ∙ ends.1))
+    (search (all_weaker, long_between)) s in
+    grind arith
 
 other_block : (ps ws : List Text) → OtherMeans (front ps) ws → OtherRead ps ws (from_block ps)
 other_block ps ws h =
@@ -401,4 +392,4 @@ one_private_fault ps f g (not_private n) (not_private m) = refl
 
 pub private_reader : IsReader PrivateRead PrivateFault
 private_reader = reader_of PrivateRead PrivateFault private_result private_answer
-    (λ ps v w rest more a b. (a.means ∙ sym b.means, a.left ∙ sym b.left)) private_apart one_private_fault
+    (grind arith) private_apart one_private_fault

@@ -1,8 +1,7 @@
--- Values that tie feed a hasher alike, and what is fed tells them apart: each part tells its value, and where
--- it ends.
-use Rattle.std.proofs.Common.{◌≡◌, ℕ, zero, suc, ◌^◌, ◌<◌, ◌≤◌, ◌-◌, ◌==◌, List, [], ◌∷◌, ◌++◌, length}
-use Rattle.std.proofs.Common.{refl, sym, ap, ◌∙◌, Bool, true, false, replicate}
-use Rattle.std.proofs.Common.{Option, Some, None, append_assoc, length-append, arith, if◌then◌else◌}
+-- What values feed a hasher: values that tie feed it alike, and what is fed tells them apart.
+use Rattle.std.proofs.Common.{ℕ, length, false, replicate, Option, append_assoc, length-append, if◌then◌else◌}
+use Rattle.std.proofs.Common.{◌≡◌, zero, suc, ◌^◌, ◌<◌, List, ◌++◌, refl, Bool, true, Some, None, arith}
+use Rattle.std.proofs.Common.{◌≤◌, ◌-◌, [], ◌∷◌, sym, ap, ◌∙◌, ◌↔◌, ◌+◌}
 use Rattle.std.specs.Prelude.{nat_lt}
 use Rattle.std.specs.List.{list_all, flat_map}
 use Rattle.std.proofs.lemmas.List.{length-replicate}
@@ -27,6 +26,14 @@ use Rattle.iloc_spec_parts.specs.Hashes.{
   extensions_fed,
   locale_fed,
 }
+use Rattle.iloc_spec_parts.specs.Subdivisions.{Subdivision}
+use Rattle.iloc_spec_parts.specs.DataLocales.{DataLocale, DataKey, data_key}
+use Rattle.iloc_spec_parts.specs.DataOrders.{subdivision_cmp}
+use Rattle.iloc_spec_parts.specs.DataHashes.{subdivision_fed, data_key_fed, data_locale_fed}
+use Rattle.iloc_spec_parts.proofs.DataOrderLaws.{subdivision_exact}
+
+-- Values that tie feed a hasher alike, and what is fed tells them apart: each part tells its value, and where
+-- it ends.
 
 -- A value that makes fewer writes than 2 ^ 64 is told by them, whatever follows, and so is what follows
 pub record Tells {X : Type 0} (fed : X → HashWrites) : Type 0 where
@@ -53,9 +60,12 @@ before_padding : (w : Text) (n : ℕ) → list_all (λ b. nat_lt 0 b) w ≡ true
     before_zero (w ++ replicate n 0) ≡ w
 before_padding [] n h = before_zeros n
 before_padding (c ∷ w) n h =
-    let parts = and_parts (nat_lt 0 c) (list_all (λ b. nat_lt 0 b) w) h in
-    let other : (c == 0) ≡ false = grind (arith, nat_tests) in
-    rw other (ap (λ l. c ∷ l) (before_padding w n parts.1))
+    grind (
+      arith,
+      and_parts,
+      nat_tests,
+      before_padding w n (and_parts (nat_lt 0 c) (list_all (λ b. nat_lt 0 b) w) h).1,
+    )
 
 padded_back : (w : Text) → is_short_text w ≡ true → before_zero (padded w) ≡ w
 padded_back w h = grind (arith, before_padding, and_parts)
@@ -83,31 +93,16 @@ pub word_few : (w : Text) → length (word_fed w) ≤ 2
 word_few w = fed_few (is_short_text w) w
 
 pub word_tells : Tells word_fed
-word_tells = record {
-  some = λ w. fed_some (is_short_text w) w;
-  told = λ v w us vs h k e. fed_told (is_short_text v) (is_short_text w) v w us vs refl refl e;
-}
+word_tells = search (fed_some, fed_told)
 
 byte_tells : Tells u8
-byte_tells = record {
-  some = λ b. omega arith;
-  told = λ b c us vs h k e. (cc, cc);
-}
+byte_tells = grind arith
 
 -- one part after another
 
 module _ {X Y : Type 0} {f : X → HashWrites} {g : Y → HashWrites} (a : Tells f) (b : Tells g) where
   pub both_tell : Tells (λ (p : X × Y). f p.0 ++ g p.1)
-  both_tell = record {
-    some = λ p. let l = length-append (f p.0) (g p.1) in let s = a.some p.0 in omega arith;
-    told = λ p q us vs h k e.
-        let l = length-append (f p.0) (g p.1) in
-        let m = length-append (f q.0) (g q.1) in
-        let first = a.told p.0 q.0 (g p.1 ++ us) (g q.1 ++ vs) (omega arith) (omega arith)
-        (sym (append_assoc (f p.0) (g p.1) us) ∙ e ∙ append_assoc (f q.0) (g q.1) vs) in
-        let second = b.told p.1 q.1 us vs (omega arith) (omega arith) first.1 in
-        ((λ i. (first.0 i, second.0 i)), second.1);
-  }
+  both_tell = grind (arith, length-append, append_assoc)
 
 -- a value that is kept as another
 pub through : {X Y : Type 0} (to : X → Y) (from : Y → X) → ((x : X) → from (to x) ≡ x) →
@@ -123,19 +118,7 @@ length_told m n h k e = grind (arith, from_le_bytes-to_le_bytes_8)
 module _ {X : Type 0} {f : X → HashWrites} (a : Tells f) where
   pub option_tells : Tells (option f)
   unfolding le_bytes
-  option_tells = record { some = λ o. some_writes o; told = λ o p us vs h k e. option_told o p us vs h k e }
-    where
-      some_writes : (o : Option X) → 0 < length (option f o)
-      some_writes None = omega arith
-      some_writes (Some x) = omega arith
-
-      option_told : (o p : Option X) (us vs : HashWrites) → length (option f o) < 2 ^ 64 →
-          length (option f p) < 2 ^ 64 → option f o ++ us ≡ option f p ++ vs → (o ≡ p) × (us ≡ vs)
-      option_told None None us vs h k e = (refl, cc)
-      option_told None (Some y) us vs h k e = absurd (cc)
-      option_told (Some x) None us vs h k e = absurd (cc)
-      option_told (Some x) (Some y) us vs h k e =
-          let t = a.told x y us vs (omega arith) (omega arith) (cc) in (ap Some t.0, t.1)
+  option_tells = grind arith
 
   -- a list
 
@@ -153,20 +136,11 @@ module _ {X : Type 0} {f : X → HashWrites} (a : Tells f) where
       let m = length-append (f x) (flat_map f xs) in
       let n = length-append (f y) (flat_map f ys) in
       let first = a.told x y (flat_map f xs ++ us) (flat_map f ys ++ vs) (omega arith) (omega arith)
-      (sym (append_assoc (f x) (flat_map f xs) us) ∙ e ∙ append_assoc (f y) (flat_map f ys) vs) in
-      let rest = each_told xs ys us vs (omega arith) (omega arith) (omega arith) first.1 in
-      ((λ i. first.0 i ∷ rest.0 i), rest.1)
+      (grind (arith, append_assoc)) in
+      search (each_told xs ys us vs (omega arith) (omega arith) (omega arith) first.1)
 
   pub list_tells : Tells (slice f)
-  list_tells = record {
-    some = λ xs. omega arith;
-    told = λ xs ys us vs h k e.
-        let m = each_long xs in
-        let n = each_long ys in
-        let l : length xs ≡ length ys =
-        length_told (length xs) (length ys) (omega arith) (omega arith) (cc) in
-        each_told xs ys us vs l (omega arith) (omega arith) (cc);
-  }
+  list_tells = grind (arith, each_long, length_told, each_told)
 
 -- the parts of a locale
 
@@ -199,7 +173,7 @@ other_tells = both_tell byte_tells words_tell
 pub extensions_tell : Tells extensions_fed
 extensions_tell = through {Y = ((Unicode × Transform) × List Text) × List Block}
     (λ e. (((e.unicode, e.transform), e.private), e.others))
-    (λ p. record { unicode = p.0.0.0; transform = p.0.0.1; private = p.0.1; others = p.1 })
+    (λ p. search)
     (λ e. refl)
     (both_tell (both_tell (both_tell unicode_tells transform_tells) words_tell) (list_tells other_tells))
 
@@ -229,4 +203,42 @@ pub ruleset told_parts = (
   other_tells,
   extensions_tell,
   locale_tells,
+)
+
+-- Subdivisions and data locales are told by what they feed a hasher.
+
+subdivision_tells : Tells subdivision_fed
+subdivision_tells = through {Y = Text × Text} (λ s. (s.region, s.suffix))
+    (λ p. record { region = p.0; suffix = p.1 }) (λ s. refl) (both_tell word_tells word_tells)
+
+key_tells : Tells data_key_fed
+key_tells = through {Y = ((Text × Option Text) × Option Subdivision) × Option Text}
+    (λ k. (((k.language, k.script), k.region), k.variant))
+    (λ p. record { language = p.0.0.0; script = p.0.0.1; region = p.0.1; variant = p.1 })
+    (λ k. refl)
+    (both_tell (both_tell (both_tell word_tells (option_tells word_tells)) (option_tells subdivision_tells))
+    (option_tells word_tells))
+
+pub subdivision_hashes : HashesByOrder subdivision_cmp subdivision_fed
+subdivision_hashes = hashes_by subdivision_exact subdivision_tells
+
+-- a key makes few writes
+
+optional_few : {X : Type 0} (f : X → HashWrites) (n : ℕ) → ((x : X) → length (f x) ≤ n) → (o : Option X) →
+    length (option f o) ≤ n + 1
+optional_few f n h None = omega arith
+optional_few f n h (Some x) = let l = h x in omega arith
+
+subdivision_few : (s : Subdivision) → length (subdivision_fed s) ≤ 4
+subdivision_few s = grind (arith, word_few, length-append)
+
+key_few : (k : DataKey) → length (data_key_fed k) < 2 ^ 64
+key_few k = grind (arith, optional_few, word_few, subdivision_few, length-append)
+
+pub data_locale_hashes : (d e : DataLocale) →
+    (data_locale_fed d ≡ data_locale_fed e) ↔ (data_key d ≡ data_key e)
+data_locale_hashes d e = (
+  (λ h. (key_tells.told (data_key d) (data_key e) [] [] (key_few (data_key d)) (key_few (data_key e))
+      (ap (λ ws. ws ++ []) h)).0),
+  (λ h. ap data_key_fed h),
 )

@@ -1,69 +1,11 @@
 -- Each block of an inline text has few words.
-use Rattle.std.proofs.Common.{
-  ◌≡◌,
-  ℕ,
-  ◌≤◌,
-  Bool,
-  true,
-  false,
-  cond,
-  ◌==◌,
-  List,
-  [],
-  ◌∷◌,
-  ◌++◌,
-  length,
-  map,
-  filter,
-  refl,
-  sym,
-  ap,
-  ◌∙◌,
-  arith,
-  Option,
-  Some,
-  None,
-  IfSome,
-  option_map,
-  true≢false,
-  append-nil,
-}
+use Rattle.std.proofs.Common.{◌≡◌, ℕ, ◌≤◌, Bool, true, false, ◌==◌, List, [], ◌∷◌, ◌++◌, length, map, filter, refl, sym, ap, ◌∙◌, arith, Option, Some, None, IfSome, option_map, true≢false, append-nil}
 use Rattle.std.specs.List.{AllByRecursion, list_any}
 use Rattle.std.specs.Ordering.{nat_cmp, eq_by_cmp}
 use Rattle.std.proofs.lemmas.Bool.{or_parts, eq-eqb, false_from_ne_true}
 use Rattle.std.proofs.lemmas.Bool.Decides.{nat_tests}
 use Rattle.std.proofs.lemmas.List.{length-map}
-use Rattle.iloc_spec_grammar.specs.Syntax.{
-  LanguageLengths,
-  Block,
-  code_x,
-  code_u,
-  code_t,
-  Text,
-  pieces,
-  AreLengths,
-  PrivateSubtag,
-  is_word,
-  lower,
-  word_cmp,
-  Spelled,
-  SpelledIdentifier,
-  SpelledUnicode,
-  SpelledTransform,
-  Transform,
-  Fields,
-  identifier_pieces,
-  fields_pieces,
-  unicode_pieces,
-  transform_pieces,
-  IsIdentifier,
-  IsUnicode,
-  AllDifferent,
-  is_other_singleton,
-  lower_singleton,
-  head,
-  tail_blocks,
-}
+use Rattle.iloc_spec_grammar.specs.Syntax.{LanguageLengths, Block, code_x, code_u, Text, pieces, AreLengths, PrivateSubtag, is_word, lower, word_cmp, Spelled, SpelledIdentifier, SpelledUnicode, SpelledTransform, Fields, identifier_pieces, unicode_pieces, transform_pieces, IsIdentifier, IsUnicode, AllDifferent, is_other_singleton, lower_singleton, head, tail_blocks}
 use Rattle.iloc_spec_grammar.specs.Meaning.{
   normal_identifier,
   normal_values,
@@ -82,7 +24,7 @@ use Rattle.iloc_spec_parts.specs.Inline.{
   IsInlineByBlocks,
   ReachesLongBlock,
 }
-use Rattle.iloc_spec_parts.specs.Fronts.{FrontRead, absent, present, fields_front, before_bad_key}
+use Rattle.iloc_spec_parts.specs.Fronts.{FrontRead, absent, present}
 use Rattle.iloc_spec_parts.proofs.FrontLaws.{unicode_taken, keywords_taken}
 use Rattle.iloc_spec_parts.proofs.KeptLaws.{kept_all, passing_short, some_fields}
 use Rattle.iloc_spec_parts.proofs.ShortFronts.{
@@ -103,7 +45,7 @@ later_after : (d : Block) (all bs : List Block) →
     AllByRecursion (λ b. after (lower_singleton b) (d ∷ all) ≡ b.1) bs
 later_after d all [] n h = tt
 later_after d all (b ∷ bs) n h = let parts = or_parts _ _ n in
-    (rw (differ (lower_singleton d) (lower_singleton b) parts.0) h.0, later_after d all bs parts.1 h.1)
+    grind (arith, later_after d all bs parts.1 h.1)
   where
     differ : (q c : ℕ) → eq_by_cmp nat_cmp q c ≡ false → (q == c) ≡ false
     differ q c h = grind (arith, nat_tests)
@@ -112,9 +54,7 @@ pub each_after : (bs : List Block) → AllDifferent nat_cmp (map (λ b. lower_si
     AllByRecursion (λ b. after (lower_singleton b) bs ≡ b.1) bs
 each_after [] d = tt
 each_after (b ∷ bs) d = (
-  ap (λ t. cond t b.1 [] ++ after (lower_singleton b) bs)
-      (eq-eqb (lower_singleton b) (lower_singleton b) refl)
-      ∙ ap (λ l. b.1 ++ l) (none_after (lower_singleton b) bs (false_from_ne_true _ d.0)) ∙ append-nil b.1,
+  grind (arith, eq-eqb, none_after, false_from_ne_true, append-nil),
   later_after b bs bs (false_from_ne_true _ d.0) (each_after bs d.1),
 )
 
@@ -124,13 +64,7 @@ short_unicode : (u : SpelledUnicode) → IsUnicode u → length (normal_unicode 
     length (normal_unicode u).keywords ≤ 1 → AllByRecursion (λ f. length (normal_values f.1) ≤ 4) u.keywords →
     IsShortUnicode (unicode_pieces u)
 short_unicode u g a k v =
-    let taken = unicode_taken u [] g refl in
-    let keys = ap before_bad_key (keywords_taken u [] g refl) ∙ kept_all u.keywords g.keywords in
-    (short_unicode_front (unicode_pieces u) [] refl).1 (record {
-      attributes = rw taken.attributes a;
-      keys = rw keys k;
-      values = rw keys v;
-    })
+    let taken = unicode_taken u [] g refl in grind (arith, keywords_taken, kept_all, short_unicode_front)
 
 few_variants : (i : SpelledIdentifier) → AllDifferent word_cmp (map lower i.variants) →
     length (normal_identifier i).variants ≤ 4 → length i.variants ≤ 4
@@ -154,15 +88,16 @@ short_identifier {T = T} i g v =
       spelled = refl;
       means = refl;
     }) refl in
-    let short : IsShortByFronts T (ps ++ []) = record {
-      variants =
-          front_few (ps ++ []) r.id (rw (← (ap (λ (k : Transform). k.id) r.means)) v);
-      no_field = λ o middle f begins.
-          some_fields middle begins (ap fields_front (one_front (ps ++ []) f r.id).1 ∙ r.spelled
-          ∙ ap fields_pieces
-          (no_normal_fields r.written.fields (sym (ap (λ (k : Transform). k.fields) r.means))));
-    } in
-    rw (append-nil ps ∙ append-nil (identifier_pieces i)) at (short_by_fronts (ps ++ []) short)
+    grind (
+      arith,
+      IsShortByFronts,
+      front_few,
+      some_fields,
+      one_front,
+      no_normal_fields,
+      append-nil,
+      short_by_fronts,
+    )
 
 short_transform : {T : ℕ → Bool} → AreLengths T → (o : Option SpelledIdentifier) → IfSome o (IsIdentifier T) →
     IfSome o (λ i. length (normal_identifier i).variants ≤ 4) → (fs : Fields) → fs ≡ [] →
@@ -193,9 +128,7 @@ module _ (T : LanguageLengths) (table : AreLengths T) (t : Text) (h : IsInline T
   short_block b own none = record {
     unicode = λ s. rw (sym h.spelled.unicode.1 ∙ at code_u s)
         at (short_unicode h.extensions.unicode h.spelled.unicode.0 h.attributes h.keywords h.values);
-    transform = λ s. rw (sym h.spelled.transform.1 ∙ at code_t s)
-        at (short_transform table h.extensions.transform.id h.spelled.transform.0.id h.transform_variants
-        h.extensions.transform.fields h.no_fields);
+    transform = grind (arith, short_transform);
     private = λ s.
         few b.1 (rw (sym h.spelled.private.1 ∙ at code_x s) at h.private);
     other = λ o. absurd (none o);

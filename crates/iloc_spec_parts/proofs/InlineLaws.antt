@@ -117,9 +117,8 @@ inline_of_few t M e i s p h v = record {
   transform_variants = unmapped e.transform.id
       (rw p at h.transform_variants);
   no_fields =
-      no_normal_fields e.transform.fields (sym (ap (λ (n : Extensions). n.transform.fields) p) ∙ h.no_fields);
-  private = subst (λ (n : ℕ). n ≤ 4) (length-map e.private lower)
-      (rw p at h.private);
+      grind (arith, no_normal_fields);
+  private = grind (arith, length-map);
   no_others = none_mapped (λ (o : Block). (o.0, kept o.1)) e.others
       (none_there nat_cmp nat_cmp_total _ (sym (ap (λ (n : Extensions). n.others) p) ∙ h.no_others));
 }
@@ -133,15 +132,13 @@ small_is_inline t r h = record {
   means = h.id;
   spelled = h.spelled;
   variants = let l = one_at_most r.id.variant in omega arith;
-  attributes = subst (λ (e : Extensions). length e.unicode.attributes ≤ 4) h.means (omega arith);
-  keywords = subst (λ (e : Extensions). length e.unicode.keywords ≤ 1) h.means
-      (one_at_most (option_map keyword_of_small r.keyword));
+  attributes = grind arith;
+  keywords = grind (arith, one_at_most);
   values = few h.written.unicode.keywords h.one_keyword r.keyword
       (ap (λ (e : Extensions). e.unicode.keywords) h.means);
-  transform_variants = unmapped h.written.transform.id
-      (subst (λ (e : Extensions). IfSome e.transform.id (λ i. length i.variants ≤ 4)) h.means tt);
+  transform_variants = grind (arith, unmapped);
   no_fields =
-      no_normal_fields h.written.transform.fields (sym (ap (λ (e : Extensions). e.transform.fields) h.means));
+      grind (arith, no_normal_fields);
   private = rw (length-map h.written.private lower) at (subst
       (λ (e : Extensions). length e.private ≤ 4) h.means (omega arith));
   no_others = none_mapped (λ (o : Block). (o.0, kept o.1)) h.written.others
@@ -219,9 +216,7 @@ all_unmapped f P (x ∷ xs) h = (h.0, all_unmapped f P xs h.1)
 module _ {T : ℕ → Bool} (w : Written) (g : IsWritten T w) (e : SpelledExtensions)
     (s : SpellsExtensions T (blocks_of w) e) where
   few_in_tree : HaveFewValues e.unicode.keywords → AllByRecursion (λ x. HasFewValues x.1) w.extensions
-  few_in_tree h = each w.extensions g.extensions (all_unmapped extension_block
-      (λ b. after (lower_singleton b) (blocks_of w) ≡ b.1) w.extensions (all_left _
-      (map extension_block w.extensions) (option_to_list w.private) (each_after (blocks_of w) s.different)))
+  few_in_tree h = each w.extensions g.extensions (search (all_unmapped, all_left, each_after))
     where
       at : (c : ℕ) (x : Extension) → IsExtension T (lower_singleton (c, x)) x →
           after (lower_singleton (c, x)) (blocks_of w) ≡ extension_pieces x → HasFewValues x
@@ -276,25 +271,23 @@ unfolding inline_means
 inline_is_tree {T = T} table t h =
     let m = tree_means t (inline_means t h).0 (inline_means t h).1 in
     let bs : tail_blocks (pieces t) ≡ blocks_of m.written =
-    ap tail_blocks m.spelled ∙ blocks-spelling table m.written m.grammatical in
+    grind (arith, blocks-spelling) in
     record {
       written = m.written;
       grammatical = m.grammatical;
       spelled = m.spelled;
       few = subst HasFewWords m.means (inline_has_few t h);
-      values = few_in_tree m.written m.grammatical h.extensions
-          (rw bs at h.spelled) h.values;
+      values = grind (arith, few_in_tree);
     }
 
 pub tree_is_inline : {T : ℕ → Bool} → AreLengths T → (t : Text) → IsTreeInline T t → IsInline T t
 tree_is_inline {T = T} table t h =
     let m = means_by_tree table t (meaning h.written)
-    (record { written = h.written; grammatical = h.grammatical; spelled = h.spelled; means = refl }) in
+    (search) in
     let bs : tail_blocks (pieces t) ≡ blocks_of h.written =
-    ap tail_blocks h.spelled ∙ blocks-spelling table h.written h.grammatical in
+    grind (arith, blocks-spelling) in
     inline_of_few t (meaning h.written) m.extensions.0 m.id m.extensions.1 m.extensions.2 h.few
-    (few_in_parts h.written h.grammatical m.extensions.0
-    (rw bs at m.extensions.1) h.values)
+    (grind (arith, few_in_parts))
 
 -- the test of inline texts
 
@@ -324,15 +317,11 @@ unfolding is_inline
 tree_passes {T = T} table t h =
     let few = h.few in
     let e : locale_result T t ≡ Ok (meaning h.written) =
-    (computed_means T table t (meaning h.written)).1 (means_by_tree table t (meaning h.written)
-    (record { written = h.written; grammatical = h.grammatical; spelled = h.spelled; means = refl })) in
+    (computed_means T table t (meaning h.written)).1 (search means_by_tree) in
     let w : written_of (pieces t) ≡ h.written =
-    ap written_of h.spelled ∙ written_of-spelling table h.written h.grammatical in
+    grind (arith, written_of-spelling) in
     (λ i. few_where_read (w i) (e i))
-    ∙ (tests_few h.written (meaning h.written)).passes ((
-      ((few.variants, few.attributes), (few.keywords, h.values)),
-      ((few.transform_variants, few.no_fields), (few.private, few.no_others)),
-    ))
+    ∙ (tests_few h.written (meaning h.written)).passes (search)
 
 few_is_tree : {T : ℕ → Bool} → AreLengths T → (t : Text) (r : Result Locale Fault) → locale_result T t ≡ r →
     few_where_read (written_of (pieces t)) r ≡ true → IsTreeInline T t
@@ -340,24 +329,10 @@ few_is_tree table t (Err f) e h = absurd (true≢false (sym h))
 few_is_tree {T = T} table t (Ok M) e h =
     let m = tree_means t M ((computed_means T table t M).0 e) in
     let w : written_of (pieces t) ≡ m.written =
-    ap written_of m.spelled ∙ written_of-spelling table m.written m.grammatical in
+    grind (arith, written_of-spelling) in
     let few =
     (tests_few m.written (meaning m.written)).holds ((λ i. has_few_words (sym w i) (sym m.means i)) ∙ h) in
-    record {
-      written = m.written;
-      grammatical = m.grammatical;
-      spelled = m.spelled;
-      few = record {
-        variants = few.0.0.0;
-        attributes = few.0.0.1;
-        keywords = few.0.1.0;
-        transform_variants = few.1.0.0;
-        no_fields = few.1.0.1;
-        private = few.1.1.0;
-        no_others = few.1.1.1;
-      };
-      values = few.0.1.1;
-    }
+    search
 
 pub inline_answer : (T : LanguageLengths) → AreLengths T → (t : Text) → (is_inline T t ≡ true) ↔ IsInline T t
 unfolding is_inline

@@ -3,7 +3,6 @@ pub mod SubdivisionLaws
 pub mod DataLaws
 pub mod DataOrderLaws
 pub mod WiderData
-pub mod DataHashLaws
 pub mod KeywordLaws
 pub mod PreferenceLaws
 pub mod ConversionLaws
@@ -11,11 +10,9 @@ pub mod FieldLaws
 pub mod ReaderLaws
 pub mod FrontLaws
 pub mod TransformLaws
-pub mod PartLaws
 pub mod ValueLaws
 pub mod ExtendingLaws
 pub mod BlockRules
-pub mod PartAnswers
 pub mod ReaderBlocks
 pub mod PartReaders
 pub mod ShortFronts

@@ -3,7 +3,7 @@ use Rattle.std.proofs.Common.{arith, ◌≡◌, ℕ, zero, suc, List, refl, ap, 
 use Rattle.std.specs.Ordering.{nat_cmp, on}
 use Rattle.std.specs.Option.{option_cmp}
 use Rattle.std.specs.declared.cmp.Ordering.{Ordering}
-use Rattle.std.specs.Cmp.{IsTotalOrder, nat_cmp_total, on_total, then_total}
+use Rattle.std.specs.Cmp.{IsTotalOrder, nat_cmp_total}
 use Rattle.std.specs.Cmp.Lexicographic.{slice_cmp, lists_total, options_total}
 use Rattle.std.specs.FinMap.{IsAntisymmetric, nat_cmp-IsAntisymmetric, slice_cmp-IsAntisymmetric}
 use Rattle.std.proofs.lemmas.Map.Lookups.{exact_pairs}
@@ -58,9 +58,7 @@ module _ {X : Type 0} {R : X → X → Ordering} where
 
 pub pair_exact : {X Y : Type 0} {R : X → X → Ordering} {S : Y → Y → Ordering} → IsExactOrder R →
     IsExactOrder S → IsExactOrder (pair_cmp R S)
-pair_exact {R = R} {S = S} o p =
-    exactly (then_total (on_total (λ z. z.0) o.total) (on_total (λ z. z.1) p.total))
-    (exact_pairs R S (ties o) (ties p))
+pair_exact {R = R} {S = S} o p = grind (arith, exactly, exact_pairs, ties)
 
 -- of a value that is kept as another
 pub on_exact : {X Y : Type 0} (to : X → Y) (from : Y → X) → ((x : X) → from (to x) ≡ x) →
@@ -93,8 +91,7 @@ pub keywords_exact : IsExactOrder keywords_cmp
 keywords_exact = short_exact (pair_exact word_exact words_exact)
 
 pub unicode_exact : IsExactOrder unicode_cmp
-unicode_exact = on_exact {Y = List Text × Fields} (λ u. (u.attributes, u.keywords))
-    (λ p. record { attributes = p.0; keywords = p.1 }) (λ u. refl) (pair_exact words_exact keywords_exact)
+unicode_exact = grind (arith, on_exact, pair_exact, words_exact, keywords_exact)
 
 pub transform_exact : IsExactOrder transform_cmp
 transform_exact =

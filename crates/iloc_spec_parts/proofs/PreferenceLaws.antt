@@ -1,6 +1,6 @@
 -- Preferences: what extending and the way to a locale and back keep.
 use Rattle.std.proofs.Common.{◌≡◌, ◌≢◌, ℕ, Bool, true, false, cond, List, [], ◌∷◌, ◌++◌, length, arith, refl}
-use Rattle.std.proofs.Common.{sym, ap, ◌∙◌, Option, Some, None, Ok, Err, IfSome, option_map, option_and_then}
+use Rattle.std.proofs.Common.{sym, ap, Option, Some, None, Ok, Err, IfSome, option_map, option_and_then}
 use Rattle.std.proofs.Common.{codes, length-append, true≢false, ◌&&◌, ◌||◌, is_none, is_some}
 use Rattle.std.specs.Option.{option_or}
 use Rattle.std.specs.Result.{result_ok}
@@ -24,7 +24,7 @@ use Rattle.iloc_spec_grammar.proofs.ValuesLaws.{all_weaker}
 use Rattle.iloc_spec_grammar.proofs.Corollaries.{well_formed_value}
 use Rattle.iloc_spec_grammar.proofs.WordsLaws.{length-lower, length-region}
 use Rattle.iloc_spec_parts.specs.Subdivisions.{Subdivision, IsSubdivision, subdivision, subdivision_text}
-use Rattle.iloc_spec_parts.specs.DataLocales.{whole_region, is_whole, whole}
+use Rattle.iloc_spec_parts.specs.DataLocales.{is_whole, whole}
 use Rattle.iloc_spec_parts.specs.Keywords.{subdivision_reads, subdivision_gives}
 use Rattle.std.proofs.lemmas.Bool.{and_parts, and_from, false_from_ne_true, cond_both}
 use Rattle.iloc_spec_parts.specs.Preferences.{
@@ -109,9 +109,7 @@ find_sd (Some x) s = refl
 
 find_rg : (o s : Option Subdivision) →
     find word_cmp rg (rg_entry o ++ sd_entry s) ≡ find word_cmp rg (rg_entry o)
-find_rg None (Some x) =
-    elim (is_whole x) as (λ b. find word_cmp rg (cond b [] ((sd, subdivision_gives x) ∷ [])) ≡ None)
-    [ true ↦ refl | false ↦ refl ]
+find_rg None (Some x) = grind (arith, rg, sd)
 find_rg _ _ = refl
 
 pub read_given : (s : Subdivision) → IsSubdivision s → is_true (subdivision_text s) ≡ false →
@@ -133,8 +131,7 @@ region_back None h n = refl
 region_back (Some s) h n = cond_both (is_whole s) _ _ (λ es.
     preferred_region (Some s.region) (option_and_then subdivision_reads (find word_cmp sd es)) ≡ Some s)
     (λ e. ap (λ x. Some (record { region = s.region; suffix = x })) (sym (same_is s.suffix whole e)))
-    (λ e. ap (preferred_region (Some s.region)) (read_given s h n)
-    ∙ ap (λ b. Some (cond b s (whole_region s.region))) (same_itself s.region))
+    (search (read_given, same_itself))
 
 pub preferences_back : {T : ℕ → Bool} (p : Preferences) → IsPreferences T p → SpellsNoTrue p →
     preferences (locale_of_preferences p) ≡ p
@@ -187,13 +184,11 @@ locale_is_value p h = grind (arith, one_normal, one_ascends, all_weaker, locale_
 pub locale_is_well_formed : {T : ℕ → Bool} → AreLengths T → (p : Preferences) → IsPreferences T p →
     IsWellFormed (locale_of_preferences p)
 locale_is_well_formed table p h =
-    well_formed_value table (locale_of_preferences p) (locale_is_value p h) (record {
-      ascending = refl;
-      singletons = tt;
-      nonempty = tt;
-      values = all_weaker IsEntry (λ f. AllByRecursion (λ w. (is_true w ≡ false) × (length w ≢ 2)) f.1)
-          (λ f e. e.1) _ (locale_entries p h);
-    })
+    well_formed_value table (locale_of_preferences p) (locale_is_value p h) (grind (
+      arith,
+      all_weaker,
+      locale_entries,
+    ))
 
 -- preferences of a value keep what the type keeps
 
@@ -256,12 +251,7 @@ whole_spells : (s : Subdivision) → IsSubdivision s → s.suffix ≡ whole → 
 unfolding is_true
 whole_spells s h e = false_from_ne_true _ (λ q.
     let four : 4 ≡ length (subdivision_text s) = ap length (same_is (codes "true") (subdivision_text s) q) in
-    let l = length-append (lower s.region) (lower s.suffix) in
-    let m = length-lower s.region in
-    let n = length-lower s.suffix in
-    let k : length s.suffix ≡ 4 = ap length e in
-    let r = length-region s.region h.region.0 in
-    absurd (omega arith))
+    grind (arith, length-append, length-lower, length-region))
 
 region_only : (s : Subdivision) → IsSubdivision s →
     preferred_region (Some s.region)

@@ -127,8 +127,7 @@ carried {R = R} {S = S} c bs e closed m = record {
       (found_closed code_u (λ e. absurd (omega arith)) bs closed) m.unicode;
   transform = part_carried _ IsClosed R.transform S.transform c.transform no_transform e.transform
       (found_closed code_t (λ e. absurd (omega arith)) bs closed) m.transform;
-  private = part_carried _ (λ _. Unit {0}) R.private S.private (λ ps ws _. c.private ps ws) [] e.private
-      (any_some _) m.private;
+  private = grind (arith, part_carried, any_some);
   each_other = all_weaker (λ b. IsClosed b.1 × R.other b.1 (kept b.1)) (λ b. S.other b.1 (kept b.1))
       (λ b p. c.other b.1 (kept b.1) p.0 p.1) _
       (all_both (λ b. IsClosed b.1) (λ b. R.other b.1 (kept b.1)) _ (others_closed bs closed) m.each_other);
@@ -140,16 +139,15 @@ module _ (T : LanguageLengths) (table : AreLengths T) where
   read_by_grammar = record {
     unicode = λ ps v c. block_read UnicodeRead _ UnicodeMeans unicode_agrees ps v c;
     transform = λ ps m c. block_read (TransformRead T) _ (TransformMeans T) (transform_agrees T table) ps m c;
-    private = λ ps ws h.
-        record { follows = record { words = h.0.words; nonempty = h.0.nonempty }; means = h.1; left = refl };
+    private = grind arith;
     other = λ ps ws c. block_read OtherRead _ OtherMeans other_agrees ps ws c;
   }
 
   grammar_by_reading : Carries (reading_rules T) (grammar_rules T)
   grammar_by_reading = record {
-    unicode = λ ps v c. read_block UnicodeRead _ UnicodeMeans unicode_agrees ps v c;
+    unicode = grind (arith, read_block, unicode_agrees);
     transform = λ ps m c. read_block (TransformRead T) _ (TransformMeans T) (transform_agrees T table) ps m c;
-    private = λ ps ws h. (record { words = h.follows.words; nonempty = h.follows.nonempty }, h.means);
+    private = grind arith;
     other = λ ps ws c. read_block OtherRead _ OtherMeans other_agrees ps ws c;
   }
 

@@ -147,16 +147,7 @@ short_transform_front table [] rest s = search none_first
 short_transform_front {T = T} table (p ∷ ps) rest s =
     let few = variants_before p ps rest s in
     let repeats = repeats_in_block table (p ∷ ps) rest s in
-    let field = field_before T p ps rest s in (
-      λ h. record {
-        variants = λ l. rw few (h.variants l);
-        no_field = λ n b. h.no_field (λ r. n (repeats.0 r)) (field.1 b);
-      },
-      λ h. record {
-        variants = λ l. rw few at (h.variants l);
-        no_field = λ n b. h.no_field (λ r. n (repeats.1 r)) (field.0 b);
-      },
-    )
+    grind (arith, field_before)
 
 -- by the longest front of an identifier
 pub record IsShortByFronts (T : LanguageLengths) (ps : List Text) : Type 0 where
@@ -244,16 +235,6 @@ record Met (T : LanguageLengths) (seen : List ℕ) (bs : List Block) : Type 0 wh
   long : ¬ (IsShortBlock T block)
 
 module _ {T : ℕ → Bool} where
-  after_good : (b : Block) (rest : List Block) (seen : List ℕ)
-      (good : List Block) →
-      AreGood T seen good → HasSingleton b → IsNew seen b → ¬ (IsSecond good b) → ¬ (IsShortBlock T b) →
-      MeetsLongBlock T seen (good ++ (b ∷ rest))
-  after_good b rest seen [] g l k n x = here l k x
-  after_good b rest seen (d ∷ ds) g l k n x =
-      let parts = or_parts _ _ (false_from_ne_true _ n) in
-      later g.0.0 g.0.1 g.0.2
-      (after_good b rest (lower_singleton d ∷ seen) ds g.1 l (λ i. parts.0 i || k i) (both_ways _ parts.1) x)
-
   met : {seen : List ℕ} {bs : List Block} → MeetsLongBlock T seen bs → Met T seen bs
   met (here {b = b} {bs = bs} l n x) = record {
     good = [];
@@ -282,5 +263,4 @@ module _ {T : ℕ → Bool} where
       }
 
   pub met_is_reached : {bs : List Block} → MeetsLongBlock T [] bs → ReachesLongBlock T bs
-  met_is_reached m = let h = met m in
-      (h.good, h.rest, h.block.0, h.block.1, h.whole, blocks_spelled h.good_before, h.letter, h.first, h.long)
+  met_is_reached m = let h = met m in search blocks_spelled

@@ -1,28 +1,5 @@
 -- A small value prints as a well-formed locale does, and its text is read as it.
-use Rattle.std.proofs.Common.{
-  ◌≡◌,
-  ◌≤◌,
-  ℕ,
-  Bool,
-  false,
-  not,
-  List,
-  [],
-  ◌∷◌,
-  length,
-  map,
-  refl,
-  sym,
-  ap,
-  ◌∙◌,
-  arith,
-  Option,
-  Some,
-  None,
-  IfSome,
-  option_map,
-  option_to_list,
-}
+use Rattle.std.proofs.Common.{◌≡◌, ◌≤◌, ℕ, Bool, false, not, List, [], ◌∷◌, length, map, refl, ap, ◌∙◌, arith, Option, Some, None, IfSome, option_map, option_to_list}
 use Rattle.std.specs.List.{AllByRecursion}
 use Rattle.std.proofs.lemmas.Bool.{both_ways, cond_both, not-true}
 use Rattle.iloc_spec_grammar.specs.Syntax.{
@@ -144,19 +121,10 @@ small_back {T = T} r h = tree_is_small _ r (record {
   grammatical = keyword_written r h;
   spelled = ap pieces (text_is (locale_of_small r)) ∙ ap (λ w. pieces (join (spelling w))) (printed_small r)
       ∙ pieces_spelled _ (keyword_written r h)
-      (elim r.keyword as (λ k. AllByRecursion (λ e. OfWords e.1) (keyword_extension (with_u k)))
-      [ None ↦ tt | Some k ↦ (tt, tt) ]);
+      (grind (arith, OfWords, keyword_extension));
   one_variant = one_at_most r.id.variant;
   one_value = one_left r.keyword h.value;
-  means = λ i. record {
-    id = record {
-      language = sym h.language.1 i;
-      script = sym (optional_fixed Script r.id.script h.script) i;
-      region = sym (optional_fixed Region r.id.region h.region) i;
-      variant = sym (variant_stays r.id.variant h.variant) i;
-    };
-    keyword = sym (keyword_stays r.keyword h.key h.value) i;
-  };
+  means = grind (arith, optional_fixed, variant_stays, keyword_stays);
 })
   where
     one_left : (k : Option (Text × Option Text)) →

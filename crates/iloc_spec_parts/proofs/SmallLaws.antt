@@ -136,21 +136,13 @@ keyword_back (Some k) = simp first-option
 
 small_of-locale_of_small : (r : SmallLocale) → small_of_locale (locale_of_small r) ≡ r
 unfolding small_of_locale
-small_of-locale_of_small r = λ i. record {
-  id = record {
-    language = r.id.language;
-    script = r.id.script;
-    region = r.id.region;
-    variant = first-option r.id.variant i;
-  };
-  keyword = keyword_back r.keyword i;
-}
+small_of-locale_of_small r = grind (arith, first-option, keyword_back)
 
 pub one_small : {T : ℕ → Bool} → AreLengths T → (t : Text) (r s : SmallLocale) → IsSmall T t r →
     IsSmall T t s → r ≡ s
 one_small table t r s a b = sym (small_of-locale_of_small r)
     ∙ ap small_of_locale
-    (one_meaning table t _ _ (tree_means t _ (small_means t r a)) (tree_means t _ (small_means t s b)))
+    (search (one_meaning, tree_means, small_means))
     ∙ small_of-locale_of_small s
 
 -- reading an identifier
@@ -184,7 +176,7 @@ small_unread : (T : LanguageLengths) (p : Text) (ps : List Text) (r : SmallIdent
     IsSmallIdentifier T (p ∷ ps) r → has_small_variants (identifier_of (p ∷ ps)).variants ≡ true
 small_unread T p ps r h =
     let e : identifier_of (p ∷ ps) ≡ h.written =
-    ap identifier_of h.spelled ∙ identifier_of-pieces h.written h.grammatical.words in
+    grind (arith, identifier_of-pieces) in
     ap (λ (i : SpelledIdentifier). has_small_variants i.variants) e
     ∙ and_from _ _ ((all_words Variant h.written.variants).passes h.grammatical.words.variants)
     (le-leb _ _ (one_variant (p ∷ ps) r h))

@@ -32,9 +32,9 @@ use Rattle.std.proofs.Common.{
 }
 use Rattle.std.specs.List.{AllByRecursion}
 use Rattle.std.specs.Char.{is_ascii_alphanumeric, to_ascii_lowercase}
-use Rattle.std.specs.Ordering.{nat_cmp, is_eq}
+use Rattle.std.specs.Ordering.{nat_cmp}
 use Rattle.std.specs.declared.cmp.Ordering.{Ordering}
-use Rattle.std.specs.Cmp.{IsTotalOrder, nat_cmp_total, tied_itself}
+use Rattle.std.specs.Cmp.{IsTotalOrder, nat_cmp_total}
 use Rattle.std.specs.FinMap.{find}
 use Rattle.std.proofs.lemmas.Bool.{or_parts, eq-eqb, false_from_ne_true, both_ways}
 use Rattle.std.proofs.lemmas.Bool.Decides.{nat_tests}
@@ -141,7 +141,7 @@ pub none_there : {K X : Type 0} (R : K → K → Ordering) → IsTotalOrder R �
 none_there R o [] e = refl
 none_there {K = K} {X = X} R o (x ∷ es) e =
     let first : find R x.0 (x ∷ es) ≡ Some x.1 =
-    ap (λ r. cond (is_eq r) (Some x.1) (find R x.0 es)) (tied_itself o x.0) in
+    grind arith in
     let nothing : ◌≡◌ {A = Option X} None (Some x.1) =
     sym (ap (find R x.0) e) ∙ find-map_of R o x.0 (x ∷ es) ∙ first in
     absurd (cc)
@@ -182,12 +182,7 @@ small_identifier_is ps r h =
     ∙ ap (λ (i : Identifier). first_item i.variants)
     (h.means ∙ sym (same_variants h.written (one_variant ps r h)))
     ∙ first-option (first_item (map lower h.written.variants)) in
-    λ i. record {
-      language = (h.means i).language;
-      script = (h.means i).script;
-      region = (h.means i).region;
-      variant = variant i;
-    }
+    grind arith
 
 -- Keywords.
 
@@ -275,21 +270,15 @@ one_of_u ((c, ps) ∷ []) d h u [] k w l o e = grind (arith, nothing_here, eq-eq
 one_of_u ((c, ps) ∷ []) d h u (f ∷ []) k w l None e = absurd (cc)
 one_of_u ((c, ps) ∷ []) d h u (f ∷ []) k w l (Some q) e =
     let pieces_are : ps ≡ f.0 ∷ f.1 =
-    sym (append-nil ps) ∙ ap (λ t. cond t ps [] ++ []) (sym (eq-eqb (to_ascii_lowercase c) code_u u.0)) ∙ k
-    ∙ append-nil (f.0 ∷ f.1) in
+    grind (arith, append-nil, eq-eqb) in
     let both : keyword_of_small q ≡ (lower f.0, normal_values f.1) = cc in
     let key : q.0 ≡ lower f.0 = ap (λ (e : Field). e.0) both in
     let value : option_to_list q.1 ≡ normal_values f.1 = ap (λ (e : Field). e.1) both in
     record {
       keyword = Some (record { byte = c; key = f.0; values = f.1 });
-      grammatical = record {
-        u = u.0;
-        key = w.0.0;
-        values = w.0.1;
-        one_value = rw value at (one_at_most q.1);
-      };
+      grammatical = grind (arith, one_at_most);
       spelled = ap (λ l. (c, l) ∷ []) pieces_are;
-      means = λ i. Some (key i, (sym (first-option q.1) ∙ ap first_item value) i);
+      means = grind (arith, first-option);
     }
 one_of_u bs d h u (f ∷ g ∷ fs) k w l o e = absurd (omega arith)
 one_of_u (b ∷ c ∷ bs) d h u fs k w l o e = grind (arith, true≢false, self_tied, or_parts, false_from_ne_true)
@@ -302,16 +291,10 @@ keyword_spelled t r h =
     let none_transform = ap (λ (e : Extensions). e.transform) h.means in
     let transform_is : transform_pieces e.transform ≡ [] = no_pieces e.transform none_transform in
     let private_is : e.private ≡ [] =
-    none_mapped lower e.private (sym (ap (λ (e : Extensions). e.private) h.means)) in
+    grind (arith, none_mapped) in
     let others_are : e.others ≡ [] = none_mapped (λ (o : Block). (o.0, kept o.1)) e.others
     (none_there nat_cmp nat_cmp_total _ (sym (ap (λ (e : Extensions). e.others) h.means))) in
-    let attributes_are : e.unicode.attributes ≡ [] = none_mapped lower e.unicode.attributes
-    (none_in_set _ (sym (ap (λ (e : Extensions). e.unicode.attributes) h.means))) in
-    one_of_u bs h.spelled.different h.spelled.each_block
-    (only_u bs h.spelled.each_block (h.spelled.transform.1 ∙ transform_is) (h.spelled.private.1 ∙ private_is)
-    (h.spelled.others.1 ∙ others_are))
-    e.unicode.keywords (h.spelled.unicode.1 ∙ ap (λ l. l ++ fields_pieces e.unicode.keywords) attributes_are)
-    h.spelled.unicode.0.keywords h.one_keyword r.keyword (ap (λ (e : Extensions). e.unicode.keywords) h.means)
+    grind (arith, none_mapped, none_in_set, one_of_u, only_u)
   where
     no_pieces : (m : SpelledTransform) →
         no_transform ≡ record { id = option_map normal_identifier m.id; fields = normal_fields m.fields } →
@@ -352,9 +335,9 @@ small_by_keyword {T = T} t r id k = record {
   id = id;
   written = keyword_extensions k.keyword;
   spelled = rw k.spelled (spelled_keyword k.keyword k.grammatical);
-  one_keyword = one_at_most (option_map (λ (k : WrittenKeyword). (k.key, k.values)) k.keyword);
+  one_keyword = search one_at_most;
   means = means k.keyword k.grammatical
-      (ap (λ o. (locale_of_small (record { id = r.id; keyword = o })).extensions) k.means);
+      (search);
 }
   where
     means : (k : Option WrittenKeyword) → IfSome k IsSmallKeyword →

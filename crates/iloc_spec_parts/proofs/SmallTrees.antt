@@ -137,12 +137,7 @@ tree_is_small {T = T} t r h =
     small_by_keyword t r
     (rw h.means (small_identifier_of (head (pieces t)) h.id h.grammatical.id
     (ap head h.spelled ∙ head-spelling (small_written h.id h.keyword) h.grammatical) h.one_variant))
-    (record {
-      keyword = h.keyword;
-      grammatical = g;
-      spelled = ap tail_blocks h.spelled ∙ small_blocks h.id h.grammatical.id.words h.keyword g;
-      means = ap (λ (s : SmallLocale). s.keyword) h.means;
-    })
+    (grind (arith, small_blocks))
 
 pub small_is_tree : {T : ℕ → Bool} (t : Text) (r : SmallLocale) → IsSmall T t r → IsTreeSmall T t r
 small_is_tree {T = T} t r h =
@@ -152,9 +147,7 @@ small_is_tree {T = T} t r h =
       keyword = s.keyword;
       grammatical = rules s.keyword s.grammatical;
       spelled = at (pieces t) (pieces_nonempty t)
-          ∙ (λ j. h.id.spelled j
-          ++ flat_map block_pieces ((s.spelled ∙ sym (extension_is s.keyword)
-          ∙ sym (append-nil (map extension_block (keyword_extension s.keyword)))) j));
+          ∙ (grind (arith, extension_is, append-nil));
       one_variant = one_variant (head (pieces t)) r.id h.id;
       one_value = few s.keyword s.grammatical;
       means = λ j. record { id = small_identifier_is (head (pieces t)) r.id h.id j; keyword = s.means j };

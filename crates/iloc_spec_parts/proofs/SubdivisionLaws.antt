@@ -1,29 +1,5 @@
 -- A subdivision's text is read as it, and what is read has the text in lower case.
-use Rattle.std.proofs.Common.{
-  ◌≡◌,
-  ◌≤◌,
-  true,
-  ◌&&◌,
-  ◌==◌,
-  [],
-  ◌∷◌,
-  ◌++◌,
-  length,
-  take-append-drop,
-  length-append,
-  sym,
-  ap,
-  ap₂,
-  ◌∙◌,
-  arith,
-  Some,
-  Ok,
-  ok_or,
-  inl,
-  inr,
-  true≢false,
-  MatchResult,
-}
+use Rattle.std.proofs.Common.{◌≡◌, ◌≤◌, true, ◌&&◌, ◌==◌, [], ◌∷◌, ◌++◌, length, take-append-drop, length-append, sym, ◌∙◌, arith, Some, Ok, ok_or, inl, inr, true≢false, MatchResult}
 use Rattle.std.specs.List.{list_all}
 use Rattle.std.specs.Char.{is_ascii_alphanumeric}
 use Rattle.std.proofs.lemmas.Bool.{and_parts, and_from, or_cases, eqb-true, cond_both}
@@ -90,11 +66,16 @@ suffix_parts x h = grind (arith, and_parts, nat_tests)
 joined_subtag : (r x : Text) → IsWord Region r → IsWord SubdivisionSuffix x → IsWord Subtag (r ++ x)
 unfolding is_word
 joined_subtag r x h k =
-    let l = length-region r h in
-    let s = suffix_parts x k in
-    let e = length-append r x in
-    and_from _ _ (grind (arith, nat_tests))
-    (list_all-append is_ascii_alphanumeric r x ∙ and_from _ _ (region_both r h) s.1)
+    grind (
+      arith,
+      length-region,
+      suffix_parts,
+      length-append,
+      and_from,
+      nat_tests,
+      list_all-append,
+      region_both,
+    )
 
 read_joined : (r x : Text) → IsWord Region r → IsWord SubdivisionSuffix x →
     subdivision (r ++ x) ≡ Ok (record { region = upper r; suffix = lower x })
@@ -127,11 +108,10 @@ read_parts w a b e = cond_both (is_word Region a) _ _ (λ o.
     (λ x. record {
       valid = record {
         region = (is_word-normal Region a ∙ r, normal-normal Region a);
-        suffix = (is_word-normal SubdivisionSuffix b ∙ x, normal-normal SubdivisionSuffix b);
+        suffix = search (is_word-normal, normal-normal);
       };
-      same_text = ap₂ ◌++◌ (lower-upper a) (lower-lower b) ∙ lower_joined a b ∙ ap lower e;
-      long = let l = length-region a r in
-          let s = suffix_parts b x in let j = length-append a b in let m = ap length e in omega arith;
+      same_text = grind (arith, lower-upper, lower-lower, lower_joined);
+      long = grind (arith, length-region, suffix_parts, length-append);
     })
     (λ x. tt))
     (λ r. tt)

@@ -41,47 +41,11 @@ use Rattle.std.specs.List.{AllByRecursion, list_all}
 use Rattle.std.proofs.lemmas.Bool.{cond_both, false_from_ne_true, eqb-true}
 use Rattle.std.proofs.lemmas.List.{map-append, take-append-le, take-append-drop}
 use Rattle.std.proofs.Math.Seq.{take-append_seam, drop-append_seam}
-use Rattle.iloc_spec_grammar.specs.Syntax.{
-  LanguageLengths,
-  Field,
-  code_t,
-  Text,
-  Language,
-  Script,
-  Region,
-  Variant,
-  TransformKey,
-  Attribute,
-  is_word,
-  IsWord,
-  AreLengths,
-  lower,
-  word_cmp,
-  SpelledIdentifier,
-  Transform,
-  Fields,
-  identifier_pieces,
-  optional_pieces,
-  fields_pieces,
-  HasWords,
-  IsIdentifier,
-  IsField,
-  AllDifferent,
-  first_piece,
-  front,
-}
+use Rattle.iloc_spec_grammar.specs.Syntax.{LanguageLengths, Field, code_t, Text, Language, Script, Region, Variant, TransformKey, Attribute, is_word, IsWord, AreLengths, lower, word_cmp, SpelledIdentifier, Transform, Fields, identifier_pieces, optional_pieces, fields_pieces, HasWords, IsIdentifier, IsField, first_piece, front}
 use Rattle.iloc_spec_grammar.specs.Tree.{transform, IsTransformBlock}
-use Rattle.iloc_spec_grammar.specs.Meaning.{normal_transform, Fault, RepeatsVariant}
+use Rattle.iloc_spec_grammar.specs.Meaning.{Fault, RepeatsVariant}
 use Rattle.iloc_spec_grammar.specs.ByBlocks.{TransformMeans}
-use Rattle.iloc_spec_grammar.specs.Reading.{
-  IdentifierFront,
-  EndsBefore,
-  starts_block,
-  from_block,
-  front_of,
-  after_front,
-  identifier_of,
-}
+use Rattle.iloc_spec_grammar.specs.Reading.{IdentifierFront, EndsBefore, starts_block, from_block, front_of, identifier_of}
 use Rattle.iloc_spec_grammar.proofs.WordsLaws.{length-language, region_no_script, length-transform_key}
 use Rattle.iloc_spec_grammar.proofs.ValuesLaws.{all_weaker, all_both}
 use Rattle.iloc_spec_grammar.proofs.IdentifierLaws.{pieces-identifier_of, one_identifier}
@@ -173,10 +137,7 @@ front_language {T = T} ps i rest h e = grind arith
 
 pub one_longest : {T : ℕ → Bool} (ps : List Text) (i j : SpelledIdentifier) (rest more : List Text) →
     IdentifierFront T ps i rest → IdentifierFront T ps j more → (i ≡ j) × (rest ≡ more)
-one_longest ps i j rest more a b =
-    let fronts = same_fronts (identifier_pieces i) (identifier_pieces j) rest more (sym a.spelled ∙ b.spelled)
-    (le_antisymm (b.longest i rest a.words a.spelled) (a.longest j more b.words b.spelled)) in
-    (one_identifier i j a.words b.words fronts.0, fronts.1)
+one_longest ps i j rest more a b = grind (arith, same_fronts, le_antisymm, one_identifier)
 
 pub one_front : {T : ℕ → Bool} (ps : List Text) {o q : Option SpelledIdentifier}
     {rest more : List Text} →
@@ -229,15 +190,7 @@ no_repeats [] j rest h f r = let e = r.3 in absurd (cc)
 no_repeats {T = T} (p ∷ ps) j rest h f r =
     let left = left_front T p ps (front_language (p ∷ ps) j rest f.words f.spelled) in
     let same = one_longest (p ∷ ps) j _ rest _ f left in
-    let e : (identifier_of (p ∷ ps)).variants ≡ r.0.variants ++ r.1 =
-    ap (λ l. (identifier_of l).variants) r.3 ∙ repeats_longer r.0 r.1 r.2 r.4 in
-    let vs : j.variants ≡ r.0.variants ++ front_variants r.1 =
-    ap (λ (i : SpelledIdentifier). i.variants) same.0 ∙ ap front_variants e
-    ∙ front_longest r.0.variants r.1 r.2.variants in
-    let all : AllDifferent word_cmp (map lower (r.0.variants ++ front_variants r.1)) =
-    rw vs at h.different in
-    r.4 (some_repeat word_cmp (map lower r.0.variants) (map lower (front_variants r.1))
-    (rw (map-append lower r.0.variants (front_variants r.1)) at all))
+    grind (arith, repeats_longer, front_variants, front_longest, some_repeat, map-append)
 
 -- fields
 
@@ -261,15 +214,12 @@ one_transform T ps v w rest more a b =
     let fronts = one_front ps a.id b.id in
     let fields : a.written.fields ≡ b.written.fields =
     sym (fields_are a.middle a.written.fields a.fields a.spelled) ∙ ap fields_at fronts.1
-    ∙ fields_are b.middle b.written.fields b.fields b.spelled in (
-      a.means ∙ (λ i. normal_transform (record { id = fronts.0 i; fields = fields i })) ∙ sym b.means,
-      a.left ∙ ap after_fields fronts.1 ∙ sym b.left,
-    )
+    ∙ fields_are b.middle b.written.fields b.fields b.spelled in search
 
 pub read_no_repeats : {T : ℕ → Bool} (ps : List Text) {o : Option SpelledIdentifier}
     {rest : List Text} →
     FrontRead T ps o rest → RepeatsVariant T ps → ⊥
-read_no_repeats ps (absent e) r = true≢false (sym (front_language ps r.0 r.1 r.2 r.3) ∙ e)
+read_no_repeats ps (absent e) r = grind (arith, front_language)
 read_no_repeats ps (present h f) r = no_repeats ps _ _ h f r
 
 transform_apart : (T : LanguageLengths) (ps : List Text) (m : Transform) (rest : List Text) (f : Fault) →
@@ -309,7 +259,7 @@ fields_answer {T = T} ps o middle h =
     (λ n. unread (λ r. read_no_repeats ps h r) (λ m rest r.
     let fronts = one_front ps r.id h in
     let fields : r.written.fields ≡ fields_at middle =
-    sym (fields_are r.middle r.written.fields r.fields r.spelled) ∙ ap fields_at fronts.1 in
+    grind (arith, fields_are) in
     tests_not (fields_test o (fields_at middle)) n (
       rw fields at r.fields,
       λ e. rw fields at (r.nonempty (fronts.0 ∙ e)),
@@ -332,11 +282,7 @@ transform_answer {T = T} table (p ∷ ps) =
     (λ d. fields_answer (p ∷ ps) _ _
     (present (record { words = taken.words; different = (tests_different word_cmp _).holds d }) taken))
     (λ n. repeats (
-      front_of (p ∷ ps),
-      after_front (p ∷ ps),
-      taken.words,
-      taken.spelled,
-      tests_not (tests_different word_cmp _) n,
+    search (tests_not, tests_different)
     )))
     (λ l. fields_answer (p ∷ ps) None (p ∷ ps) (absent l))
 
@@ -359,15 +305,13 @@ transform_whole T table ps m rest h s =
     let fs = fields_pieces h.written.fields in
     let front_is = front_parts ps h.id in
     let middle : h.middle ≡ fs ++ rest =
-    sym (all_from_pieces is_key is_field_piece h.middle) ∙ (λ i. h.spelled i ++ sym h.left i) in
-    let all : ps ≡ (o ++ fs) ++ rest = front_is.0 ∙ ap (λ l. o ++ l) middle ∙ sym (append_assoc o fs rest) in
+    grind (arith, all_from_pieces) in
+    let all : ps ≡ (o ++ fs) ++ rest = grind (arith, append_assoc) in
     let g : IsTransformBlock T h.written =
-    record { id = front_is.1; fields = h.fields; nonempty = h.nonempty } in
+    search in
     let ends =
-    until_block (o ++ fs) rest (long_extension T table code_t (transform h.written) (refl, g)) s in (
-      record { written = h.written; grammatical = g; spelled = ap front all ∙ ends.0; means = h.means },
-      sym (ap from_block all ∙ ends.1),
-    )
+    until_block (o ++ fs) rest (long_extension T table code_t (transform h.written) (refl, g)) s in
+    grind arith
 
 -- pieces that no identifier goes on with
 abbrev IsInside : Text → Type 0
@@ -468,7 +412,7 @@ longer_front : (xs ys a b : List Text) → xs ++ a ≡ ys ++ b → length ys ≤
 longer_front xs ys a b e l =
     let first : take (length ys) xs ≡ ys =
     sym (take-append-le (length ys) xs a l) ∙ ap (take (length ys)) e ∙ take-append_seam ys b in
-    (drop (length ys) xs, sym (take-append-drop (length ys) xs) ∙ ap (λ l. l ++ drop (length ys) xs) first)
+    (drop (length ys) xs, grind (arith, take-append-drop))
 
 one_is_short : (rest : List Text) → starts_block rest ≡ true → NoFirst IsLong rest
 one_is_short [] e = tt
@@ -476,8 +420,7 @@ one_is_short (p ∷ ps) e = λ l. true≢false (sym e ∙ l)
 
 repeats_before : {T : ℕ → Bool} → (ps rest : List Text) → RepeatsVariant T ps →
     RepeatsVariant T (ps ++ rest)
-repeats_before ps rest r =
-    (r.0, r.1 ++ rest, r.2, ap (λ l. l ++ rest) r.3 ∙ append_assoc (identifier_pieces r.0) r.1 rest, r.4)
+repeats_before ps rest r = (r.0, r.1 ++ rest, r.2, grind (arith, append_assoc), r.4)
 
 -- and what follows a block adds none
 pub repeats_in_block : {T : ℕ → Bool} → AreLengths T → (ps rest : List Text) → starts_block rest ≡ true →
@@ -505,7 +448,5 @@ repeats_in_block {T = T} table ps rest s = (repeats_before ps rest, whole ps)
 pub repeats_by_block : (T : LanguageLengths) → AreLengths T → (ps : List Text) →
     RepeatsVariant T (front ps) ↔ RepeatsVariant T ps
 repeats_by_block T table ps =
-    let same = repeats_in_block table (front ps) (from_block ps) (from_block_starts ps) in (
-      λ r. rw (front-from_block ps) at (same.0 r),
-      λ r. same.1 (rw (front-from_block ps) r),
-    )
+    let same = repeats_in_block table (front ps) (from_block ps) (from_block_starts ps) in
+    grind (arith, front-from_block)

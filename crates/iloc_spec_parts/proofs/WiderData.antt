@@ -6,5 +6,4 @@ use Rattle.iloc_spec_grammar.specs.Syntax.{Text}
 
 pub data_wider : {T U : ℕ → Bool} → ((n : ℕ) → T n ≡ true → U n ≡ true) → (t : Text) (d : DataLocale) →
     DataMeans T t d → DataMeans U t d
-data_wider wider t d h =
-    record { small = h.small; is_small = small_wider wider t h.small h.is_small; means = h.means }
+data_wider wider t d h = search small_wider

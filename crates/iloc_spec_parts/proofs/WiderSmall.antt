@@ -1,7 +1,8 @@
 -- Over a wider table small texts stay what they are.
+use Rattle.std.proofs.Common.{arith}
 use Rattle.std.proofs.Common.{◌≡◌, ℕ, Bool, true}
 use Rattle.std.proofs.lemmas.Option.{IfSome_then}
-use Rattle.iloc_spec_grammar.specs.Syntax.{Text, IsIdentifier}
+use Rattle.iloc_spec_grammar.specs.Syntax.{Text}
 use Rattle.iloc_spec_grammar.proofs.WiderTables as tables
 use Rattle.iloc_spec_parts.specs.Small.{SmallLocale, identifier_of_small, IsSmall}
 
@@ -11,21 +12,7 @@ module _ {T U : ℕ → Bool} (wider : (n : ℕ) → T n ≡ true → U n ≡ tr
       let s = h.spelled in record {
         id = tables.identifier_means_wider wider _ (identifier_of_small r.id) h.id;
         written = h.written;
-        spelled = record {
-          each_block = s.each_block;
-          different = s.different;
-          unicode = s.unicode;
-          transform = (
-            record {
-              id = IfSome_then h.written.transform.id {P = IsIdentifier T} s.transform.0.id
-                  (tables.identifier wider);
-              fields = s.transform.0.fields;
-            },
-            s.transform.1,
-          );
-          private = s.private;
-          others = s.others;
-        };
+        spelled = grind (arith, IfSome_then);
         one_keyword = h.one_keyword;
         means = h.means;
       }

@@ -66,7 +66,7 @@ pub fn data_orders()
 {}
 
 /// Subdivisions are told apart by what they feed a hasher; data locales feed it alike exactly if they stand for the same.
-#[tactic(auto, using(crate::proofs::DataHashLaws::subdivision_hashes, crate::proofs::DataHashLaws::data_locale_hashes))]
+#[tactic(auto, using(crate::proofs::HashLaws::subdivision_hashes, crate::proofs::HashLaws::data_locale_hashes))]
 pub fn data_hashes()
     ensures subdivisions { HashesByOrder subdivision_cmp subdivision_fed }
     ensures data_locales { (d e : DataLocale)

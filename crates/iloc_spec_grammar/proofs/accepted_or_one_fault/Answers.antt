@@ -3,8 +3,4 @@ use Rattle.iloc_spec_grammar.proofs.SameFaults.{accepted_or_fault, accepted_no_f
 use Rattle.iloc_spec_grammar.proofs.accepted_or_one_fault.Goals as goal
 
 pub returns : goal.returns
-returns c = record {
-  either = accepted_or_fault;
-  apart = λ T table t M f. accepted_no_fault table t M f;
-  one = λ T t f g. one_fault t;
-}
+returns c = search (accepted_or_fault, accepted_no_fault, one_fault)

@@ -3,4 +3,4 @@ use Rattle.iloc_spec_grammar.proofs.AnySteps.{chain_to_text, shortest, texts_lea
 use Rattle.iloc_spec_grammar.proofs.chain.Goals as goal
 
 pub returns : goal.returns
-returns c = record { steps = chain_to_text; shortest = shortest; same = texts_lead_to_one }
+returns c = search (chain_to_text, shortest, texts_lead_to_one)

@@ -7,8 +7,4 @@ use Rattle.iloc_spec_grammar.proofs.AnySteps.{
 use Rattle.iloc_spec_grammar.proofs.identifier_chain.Goals as goal
 
 pub returns : goal.returns
-returns c = record {
-  steps = identifier_chain_to_text;
-  long = length-identifier_means;
-  same = identifiers_lead_to_one;
-}
+returns c = search (identifier_chain_to_text, length-identifier_means, identifiers_lead_to_one)

@@ -8,9 +8,5 @@ use Rattle.iloc_spec_grammar.proofs.IdentifierTexts.{
 use Rattle.iloc_spec_grammar.proofs.identifier_or_one_fault.Goals as goal
 
 pub returns : goal.returns
-returns c = record {
-  either = text_identifier_or_fault;
-  head = head_identifier_or_fault;
-  apart = λ T ps i f. identifier_apart ps i f;
-  one = λ T ps f g. one_identifier_fault ps;
-}
+returns c =
+    search (text_identifier_or_fault, head_identifier_or_fault, identifier_apart, one_identifier_fault)

@@ -3,8 +3,4 @@ use Rattle.iloc_spec_grammar.proofs.Corollaries.{means_a_value, means_tests, rea
 use Rattle.iloc_spec_grammar.proofs.read_is_well_formed.Goals as goal
 
 pub returns : goal.returns
-returns c = record {
-  value = λ T t M. means_a_value t M;
-  well_formed = λ T table t M. read_well_formed table t M;
-  tests = λ T t M. means_tests t M;
-}
+returns c = search (means_a_value, read_well_formed, means_tests)

@@ -12,13 +12,13 @@ use Rattle.iloc_spec_grammar.proofs.SetLaws.{
 use Rattle.iloc_spec_grammar.proofs.sets.Goals as goal
 
 pub returns : goal.returns
-returns c = record {
-  ascends = set_of-ascending;
-  contains = any-set_of;
-  itself = set_of_ascending;
-  first = set_of-first;
-  last = set_of-last;
-  reordered = λ vs ws. set_of_reordered;
-  short = length-set_of;
-  different = length-set_of-different;
-}
+returns c = search (
+  set_of-ascending,
+  any-set_of,
+  set_of_ascending,
+  set_of-first,
+  set_of-last,
+  set_of_reordered,
+  length-set_of,
+  length-set_of-different,
+)

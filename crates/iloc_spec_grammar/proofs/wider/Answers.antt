@@ -3,9 +3,4 @@ use Rattle.iloc_spec_grammar.proofs.WiderTables.{language, identifier_means_wide
 use Rattle.iloc_spec_grammar.proofs.wider.Goals as goal
 
 pub returns : goal.returns
-returns c = record {
-  words = λ T U. language;
-  identifiers = λ T U. identifier_means_wider;
-  texts = λ T U. means_wider;
-  ours = means_ours;
-}
+returns c = search (language, identifier_means_wider, means_wider, means_ours)

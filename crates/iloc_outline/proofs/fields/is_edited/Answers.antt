@@ -1,14 +1,10 @@
-use Rattle.std.proofs.Common.{◌≤◌, sym, arith}
+use Rattle.std.proofs.Common.{arith}
 use Rattle.std.proofs.lemmas.Bool.Decides.{nat_tests}
-use denote.Enum.Bare.{same_false}
-use Rattle.iloc_spans.specs.contracts.span.Role.{the_type}
 use Rattle.iloc_outline.proofs.ValueLemmas.{plain_one, plain_without}
 use Rattle.iloc_outline.proofs.fields.is_edited.Goals as goal
 
 pub returns-else-eq : goal.returns-else-eq
-returns-else-eq c = λ e.
-    let few : c.args.value.now.count ≤ 1 = grind (arith, nat_tests) in
-    plain_one c.args.role c.requires (same_false the_type _ _ (sym c.if-eq.ensures)) _ _ few c.if-value.true
+returns-else-eq c = grind (arith, nat_tests, plain_one)
 
 pub returns-else-value : goal.returns-else-value
 returns-else-value c = λ e. plain_without c.args.role c.requires _ _ e

@@ -1,5 +1,5 @@
 use Rattle.std.proofs.Common.{arith}
-use Rattle.std.proofs.Common.{◌≡◌, ◌==◌, ◌&&◌, Bool, true, false, None, Some, cond, sym, ap, subst, ◌∙◌}
+use Rattle.std.proofs.Common.{◌≡◌, ◌==◌, ◌&&◌, Bool, true, false, None, Some, cond, ap, subst, ◌∙◌}
 use Rattle.iloc_pieces.specs.declared.place.Cursor.{Cursor}
 use Rattle.iloc_outline.specs.Identifier.{IsOnePast}
 use Rattle.iloc_outline.specs.Reading.{unless_end}
@@ -24,7 +24,7 @@ pub returns-then-ends_at : goal.returns-then-ends_at
 returns-then-ends_at c =
     let l = c.args.cursor.now in
     front_read l c.ends_at.new.cursor true _ _ c.requires
-    (front_alone l (ends true l c.ends_at.new.cursor _ c.if-ends_at.true c.ends_at.ensures))
+    (grind (arith, front_alone, ends))
 
 pub ends_at-requires-2 : goal.ends_at-requires-2
 ends_at-requires-2 c = grind (arith, short_script)
@@ -36,9 +36,7 @@ returns-then-ends_at-2 c =
     let has = c.is_script-has_script in
     let next = goes_on true l second _ c.if-ends_at.false c.ends_at.ensures in
     front_read l c.ends_at-2.new.cursor true c.place.result _ c.requires
-    (front_to_script c.requires next has.result has.ensures
-    c.place.result c.place.ensures
-    (ends has.result second c.ends_at-2.new.cursor _ c.if-ends_at-2.true c.ends_at-2.ensures))
+    (search (front_to_script, ends))
 
 pub ends_at-requires-3 : goal.ends_at-requires-3
 ends_at-requires-3 c = grind (arith, short_region)
@@ -52,19 +50,14 @@ returns-then-ends_at-3 c =
     let fits = c.is_region-has_region in
     let next = goes_on true l second _ c.if-ends_at.false c.ends_at.ensures in
     let two : c.if-has_region.place ≡ (fits.result && (third.piece_length == 2)) =
-    elim c.if-has_region.branch [
-      | then-has_region w ↦ w.place-is ∙ sym (ap (λ (b : Bool). b && (third.piece_length == 2))
-          w.if-has_region.true)
-      | else-has_region w ↦ w.place-is ∙ w.if-has_region.false
-          ∙ sym (ap (λ (b : Bool). b && (third.piece_length == 2)) w.if-has_region.false)
-    ] in
+    grind (arith, then-has_region, else-has_region) in
     front_read l c.ends_at-3.new.cursor true c.place.result c.place-2.result c.requires
     (front_to_region c.requires next has.result has.ensures
     c.place.result c.place.ensures third
-    (goes_on has.result second third _ c.if-ends_at-2.false c.ends_at-2.ensures)
+    (search goes_on)
     fits.result fits.ensures c.place-2.result
     (c.place-2.ensures ∙ ap (λ (b : Bool). cond b third.at 0) two) None
-    (ends fits.result third c.ends_at-3.new.cursor _ c.if-ends_at-3.true c.ends_at-3.ensures))
+    (search ends))
 
 pub returns : goal.returns
 returns c =
@@ -76,16 +69,11 @@ returns c =
     let fits = c.is_region-has_region in
     let next = goes_on true l second _ c.if-ends_at.false c.ends_at.ensures in
     let two : c.if-has_region.place ≡ (fits.result && (third.piece_length == 2)) =
-    elim c.if-has_region.branch [
-      | then-has_region w ↦ w.place-is ∙ sym (ap (λ (b : Bool). b && (third.piece_length == 2))
-          w.if-has_region.true)
-      | else-has_region w ↦ w.place-is ∙ w.if-has_region.false
-          ∙ sym (ap (λ (b : Bool). b && (third.piece_length == 2)) w.if-has_region.false)
-    ] in
+    grind (arith, then-has_region, else-has_region) in
     front_read l last false c.place.result c.place-2.result c.requires
     (front_to_region c.requires next has.result has.ensures
     c.place.result c.place.ensures third
-    (goes_on has.result second third _ c.if-ends_at-2.false c.ends_at-2.ensures)
+    (search goes_on)
     fits.result fits.ensures c.place-2.result
     (c.place-2.ensures ∙ ap (λ (b : Bool). cond b third.at 0) two) (Some last)
-    (goes_on fits.result third last _ c.if-ends_at-3.false c.ends_at-3.ensures))
+    (search goes_on))

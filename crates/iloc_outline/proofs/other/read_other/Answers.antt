@@ -1,8 +1,7 @@
 -- Pieces of two to eight bytes up to the next block, of which one is a subtag.
-use Rattle.std.proofs.Common.{arith, ◌≡◌, ◌+◌, ◌-◌, true, sym, ap, ◌∙◌}
+use Rattle.std.proofs.Common.{arith, ◌≡◌, true, sym, ap, ◌∙◌}
 use Rattle.iloc_spec_grammar.specs.Syntax.{is_other_singleton}
 use Rattle.iloc_pieces.specs.Cursor.{IsEnd, piece_left}
-use Rattle.iloc_outline.specs.declared.reading.Found.TheVariants.{End, Next}
 use Rattle.iloc_pieces.proofs.CursorLemmas.{between_short, last_piece, past_none}
 use Rattle.iloc_outline.proofs.OtherLemmas.{
   IsBetween,
@@ -77,11 +76,7 @@ returns-then-is_last-clause-read g c = λ c' e spanned.
     (ended g after c.if-is_last.true) c.args.start c.args.spans.now c.put_other.new.spans c.args.in_order.now
     c.put_other.new.in_order c.put_other.result
     c.if-not-is_good.false c.requires.follows.later spanned
-    (put_at c' c.args.byte c.args.start (c.pieces.cursor.at + c.pieces.cursor.piece_length)
-    c.if-is_subtag.edited
-    c.args.spans.now c.pieces.spans c.put_other.new.spans
-    c.args.in_order.now c.pieces.in_order c.put_other.new.in_order End c.put_other.result e
-    c.pieces.invariant.spans c.pieces.invariant.in_order c.put_other.ensures.put)
+    (search put_at)
 
 pub returns-then-not-is_good-2-clause-read : goal.returns-then-not-is_good-2-clause-read
 returns-then-not-is_good-2-clause-read g c = λ c' e spanned.
@@ -91,9 +86,7 @@ returns-then-not-is_good-2-clause-read g c = λ c' e spanned.
     let o = c.args.in_order.now in
     elim c.then-not-is_good-2.branch [
       | then-not-is_good-2-via-then-not-is_good-2 w ↦
-          next_bad c' c.args.cursor.now other c.pieces.cursor c.pieces.is_good c.pieces.edited
-          c.pieces.invariant.passed
-          spans spans o o odd w.if-not-is_good-2.true
+          search next_bad
       | then-not-is_good-2-via-else-not-is_good-2+then-not-is_single w ↦
           next_odd c' c.args.cursor.now other c.pieces.cursor c.pieces.is_good c.pieces.edited
           c.pieces.invariant.passed
@@ -110,9 +103,4 @@ returns-clause-read g c = λ c' e spanned.
     c.put_other-2.result
     (sym c.is_single.ensures ∙ c.if-not-is_single.false) c.if-not-is_good-2.false
     c.requires.follows.later spanned
-    (put_at c' c.args.byte c.args.start (c.pieces.cursor.at - 1) c.pieces.edited c.args.spans.now
-    c.pieces.spans
-    c.put_other-2.new.spans
-    c.args.in_order.now c.pieces.in_order c.put_other-2.new.in_order Next c.put_other-2.result e
-    c.pieces.invariant.spans
-    c.pieces.invariant.in_order c.put_other-2.ensures.put)
+    (search put_at)

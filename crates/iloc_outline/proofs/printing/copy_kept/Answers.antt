@@ -40,9 +40,7 @@ pieces-preserved-then-is_kept c =
         c.copy_piece-end.auto.to,
         c.pieces.auto.to,
       );
-      all = kept_put c.args.role c.pieces.at c.next-at.result c.next-at.ensures kept F T c.pieces.to
-          c.pieces.end h.inside h.all
-          c.copy_piece-end.new.to c.copy_piece-end.result c.copy_piece-end.ensures.copied;
+      all = search kept_put;
     }
 
 pub returns-clause-copied : goal.returns-clause-copied

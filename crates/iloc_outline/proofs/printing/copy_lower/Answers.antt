@@ -1,4 +1,4 @@
-use Rattle.std.proofs.Common.{◌≡◌, ◌+◌, ◌-◌, ◌++◌, take, drop, add-zero, append-nil, arith}
+use Rattle.std.proofs.Common.{◌≡◌, ◌+◌, ◌-◌, add-zero, append-nil, arith}
 use Rattle.std.proofs.lemmas.List.{length-drop, length-take-le, take-take}
 use Rattle.std.proofs.lemmas.Simd.{length-put_chunk, take_more_put_chunk}
 use Rattle.iloc_spec_grammar.specs.Syntax.{lower}
@@ -26,15 +26,7 @@ pub returns-then-done-count : goal.returns-then-done-count
 returns-then-done-count c =
     let d = c.parts.done in
     let all : d + (c.args.count - d) ≡ c.args.count = omega (arith, c.if-done-count.true) in
-    let w = c.args.window.now in
-    let step : take (c.args.start + d + (c.args.count - d)) c.copy_last.new.to
-    ≡ take (c.args.start + d) c.parts.to ++ lower (take (c.args.count - d) (drop (c.args.at + d) w)) =
-    c.copy_last.ensures.copied in
-    let done : take (c.args.start + (d + (c.args.count - d))) c.copy_last.new.to
-    ≡ take c.args.start c.args.to.now ++ lower (take (d + (c.args.count - d)) (drop c.args.at w)) =
-    copied_more w (take c.args.start c.args.to.now) c.parts.to _ c.args.at c.args.start d
-    (c.args.count - d) c.parts.invariant.copied step in
-    rw all at done
+    grind (arith, copied_more)
 
 pub returns-else-done-count : goal.returns-else-done-count
 returns-else-done-count c = grind (arith, copied_first, length-take-le)

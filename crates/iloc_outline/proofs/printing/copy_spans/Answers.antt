@@ -19,26 +19,26 @@ spelled t spans ps ss e h = rw e h
 pub copy_span-end-requires-clause-ascends : goal.copy_span-end-requires-clause-ascends
 copy_span-end-requires-clause-ascends c =
     (span_at c.args.window.now c.as_slice-held.result.now c.requires.parts c.loop-i.i NO_SPAN
-    (spelled c.args.window.now c.args.spans.now c.requires.parts _ c.as_slice-held.ensures c.requires.spell)
+    (search spelled)
     c.loop-i-test.true).1.spanned.ascends
 
 pub copy_span-end-requires-clause-inside : goal.copy_span-end-requires-clause-inside
 copy_span-end-requires-clause-inside c =
     (span_at c.args.window.now c.as_slice-held.result.now c.requires.parts c.loop-i.i NO_SPAN
-    (spelled c.args.window.now c.args.spans.now c.requires.parts _ c.as_slice-held.ensures c.requires.spell)
+    (search spelled)
     c.loop-i-test.true).1.spanned.inside
 
 pub copy_span-end-requires-clause-some : goal.copy_span-end-requires-clause-some
 copy_span-end-requires-clause-some c =
     let there = span_at c.args.window.now c.as_slice-held.result.now c.requires.parts c.loop-i.i NO_SPAN
-    (spelled c.args.window.now c.args.spans.now c.requires.parts _ c.as_slice-held.ensures c.requires.spell)
+    (search spelled)
     c.loop-i-test.true in
     span_some c.args.window.now _ there.0 there.1
 
 pub copy_span-end-requires-clause-short : goal.copy_span-end-requires-clause-short
 copy_span-end-requires-clause-short c =
     let there = span_at c.args.window.now c.as_slice-held.result.now c.requires.parts c.loop-i.i NO_SPAN
-    (spelled c.args.window.now c.args.spans.now c.requires.parts _ c.as_slice-held.ensures c.requires.spell)
+    (search spelled)
     c.loop-i-test.true in
     span_short c.args.window.now _ there.0 there.1
 

@@ -4,7 +4,6 @@ use Rattle.std.proofs.lemmas.List.{take_all}
 use Rattle.std.proofs.lemmas.List.Folds.{list_any_at}
 use Rattle.std.proofs.lemmas.Bool.Decides.{nat_tests}
 use Rattle.iloc_outline.specs.Groups.{is_singleton}
-use Rattle.iloc_spans.specs.Spans.{held_spans}
 use Rattle.iloc_spans.specs.declared.span.TheConstants.{NO_SPAN}
 use Rattle.iloc_outline.proofs.GroupsLemmas.{any_span, is_of_rank, singleton_told}
 use Rattle.iloc_outline.proofs.sorting.has_block.Goals as goal
@@ -22,7 +21,7 @@ returns-then-span-rank c = λ t before groups g s.
     let there =
     list_any_at (λ s. is_of_rank c.args.rank s.role s.word) held i NO_SPAN c.loop-i-test.true here in
     let any = ap (list_any (λ s. is_of_rank c.args.rank s.role s.word)) c.as_slice-held.ensures in (
-      λ _. sym (any_span c.args.rank t (held_spans c.args.spans.now) before groups g s) ∙ sym any ∙ there,
+      λ _. sym (search any_span) ∙ sym any ∙ there,
       λ _. refl,
     )
 
@@ -30,7 +29,7 @@ pub returns : goal.returns
 returns c = λ t before groups g s.
     let held = c.as_slice-held.result.now in
     let any = ap (list_any (λ s. is_of_rank c.args.rank s.role s.word)) c.as_slice-held.ensures in
-    let none = sym (any_span c.args.rank t (held_spans c.args.spans.now) before groups g s) ∙ sym any
+    let none = sym (search any_span) ∙ sym any
     ∙ ap (list_any (λ s. is_of_rank c.args.rank s.role s.word))
     (sym (take_all c.loop-i.i held (omega (arith, c.loop-i-test.false)))) ∙ c.loop-i.invariant in
     (λ h. absurd (true≢false (sym h)), λ m. sym none ∙ m)

@@ -1,6 +1,4 @@
-use Rattle.std.proofs.Common.{take, ap, ◌∙◌, arith, sym}
-use Rattle.std.specs.List.{list_any}
-use Rattle.iloc_outline.specs.Groups.{is_greater}
+use Rattle.std.proofs.Common.{arith}
 use Rattle.iloc_spans.specs.Spans.{held_spans}
 use Rattle.iloc_spans.specs.declared.span.TheConstants.{NO_SPAN}
 use Rattle.iloc_outline.proofs.GroupsLemmas.{spell_placed}
@@ -15,10 +13,6 @@ returns-clause-placed c = λ t before ps groups g _ n long s.
     let is = c.as_slice.ensures in
     spell_placed rank t (held_spans old) (held_spans c.turn.new.self) before ps groups c.args.from
     c.place_before-at.result NO_SPAN g n long s p.within (omega (arith, length-held old, c.requires))
-    (ap (λ ss. list_any (λ s. is_greater rank s.role s.word) (take c.place_before-at.result ss)) (sym is)
-    ∙ p.none)
-    (λ l. ap
-    (λ ss. is_greater rank (Rattle.std.proofs.Common.slice_index_or ss c.place_before-at.result NO_SPAN).role
-    (Rattle.std.proofs.Common.slice_index_or ss c.place_before-at.result NO_SPAN).word) (sym is)
-    ∙ p.some NO_SPAN l)
+    (grind arith)
+    (grind arith)
     c.turn.ensures.turned

@@ -10,11 +10,11 @@ use Rattle.iloc_spec_grammar.proofs.ComputingLaws.{
 use Rattle.iloc_spec_grammar.proofs.models.computed.Goals as goal
 
 pub returns : goal.returns
-returns c = record {
-  answer = locale_answers;
-  identifier_answer = text_identifier_answers;
-  means = computed_means;
-  fault = computed_fault;
-  identifier = computed_identifier;
-  identifier_fault = computed_identifier_fault;
-}
+returns c = search (
+  locale_answers,
+  text_identifier_answers,
+  computed_means,
+  computed_fault,
+  computed_identifier,
+  computed_identifier_fault,
+)

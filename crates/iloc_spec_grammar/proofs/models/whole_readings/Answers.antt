@@ -10,13 +10,13 @@ use Rattle.iloc_spec_grammar.proofs.Readings.{
 use Rattle.iloc_spec_grammar.proofs.models.whole_readings.Goals as goal
 
 pub returns : goal.returns
-returns c = record {
-  front = λ T i h. front_of-pieces i h;
-  front_pieces = pieces-front_of;
-  identifier = λ T i h. identifier_of-pieces i h;
-  identifier_whole = pieces-identifier_of;
-  unicode = unicode_read;
-  unicode_whole = pieces-unicode_of;
-  transform = λ T m h. transform_read m h;
-  transform_whole = pieces-transform_of;
-}
+returns c = search (
+  front_of-pieces,
+  pieces-front_of,
+  identifier_of-pieces,
+  pieces-identifier_of,
+  unicode_read,
+  pieces-unicode_of,
+  transform_read,
+  pieces-transform_of,
+)

@@ -3,4 +3,4 @@ use Rattle.iloc_spec_grammar.proofs.AnySteps.{chain_means, chain_length, any_ste
 use Rattle.iloc_spec_grammar.proofs.rewriting.any_steps.Goals as goal
 
 pub returns : goal.returns
-returns c = record { mean = chain_means; shorten = chain_length; same = any_steps_join }
+returns c = search (chain_means, chain_length, any_steps_join)

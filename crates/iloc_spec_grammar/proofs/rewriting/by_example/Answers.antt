@@ -4,7 +4,7 @@ use Rattle.iloc_spec_grammar.specs.Syntax.{pieces, join, is_word, lower, upper, 
 use Rattle.iloc_spec_grammar.specs.Reading.{identifier_of, front_of, unicode_of, transform_of, written_of}
 use Rattle.iloc_spec_grammar.specs.Computing.{locale_result}
 use Rattle.iloc_spec_grammar.specs.StepTests.{is_step, is_text_step}
-use Rattle.iloc_spec_grammar.proofs.StepExamples.{step_by_test, same_key_stays_in_order}
+use Rattle.iloc_spec_grammar.proofs.Examples.{step_by_test, same_key_stays_in_order}
 use Rattle.iloc_spec_grammar.proofs.rewriting.by_example.Goals as goal
 
 pub returns : goal.returns

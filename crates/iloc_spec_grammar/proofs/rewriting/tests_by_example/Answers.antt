@@ -1,5 +1,4 @@
 -- By computing each.
-use Rattle.std.proofs.Common.{refl}
 use Rattle.iloc_spec_grammar.specs.Syntax.{pieces, join, is_word, lower, upper, title, is_true, languages}
 use Rattle.iloc_spec_grammar.specs.Reading.{identifier_of, front_of, unicode_of, transform_of, written_of}
 use Rattle.iloc_spec_grammar.specs.Computing.{locale_result}
@@ -9,10 +8,4 @@ use Rattle.iloc_spec_grammar.proofs.rewriting.tests_by_example.Goals as goal
 pub returns : goal.returns
 unfolding is_identifier_text_step is_text_step is_step locale_result written_of unicode_of transform_of
     identifier_of front_of pieces join is_word lower upper title is_true languages
-returns c = record {
-  block_order = refl;
-  variant_order = refl;
-  repeats = refl;
-  same_key_stays_in_order = refl;
-  two_at_once = refl;
-}
+returns c = search

@@ -1,5 +1,4 @@
 -- By computing each.
-use Rattle.std.proofs.Common.{refl}
 use Rattle.iloc_spec_grammar.specs.Syntax.{pieces, join, is_word, lower, upper, title, is_true, languages}
 use Rattle.iloc_spec_grammar.specs.Values.{extensions_spelling}
 use Rattle.iloc_spec_grammar.specs.Reading.{identifier_of, front_of, unicode_of, transform_of, written_of}
@@ -18,27 +17,4 @@ pub returns : goal.returns
 unfolding extensions_spelling is_inline locale_result written_of unicode_of transform_of front_of small_result
     small_identifier_result after_identifier blocks_result block_fault identifier_of pieces join is_word lower
     upper title is_true languages
-returns c = record {
-  identifier = refl;
-  keyword = refl;
-  two_trues = refl;
-  no_language = refl;
-  two_variants = refl;
-  no_singleton = refl;
-  another_singleton = refl;
-  attribute = refl;
-  nothing_after_u = refl;
-  no_key = refl;
-  two_keys = refl;
-  two_values = refl;
-  another_block = refl;
-  two_bytes_after_the_key = refl;
-  inline = refl;
-  repeated_key = refl;
-  five_variants = refl;
-  inline_two_keys = refl;
-  five_values_of_a_repeat = refl;
-  field = refl;
-  other = refl;
-  five_private_words = refl;
-}
+returns c = search
