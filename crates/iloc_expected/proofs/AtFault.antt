@@ -35,11 +35,7 @@ cut_text t p (b ∷ bs) after e =
     let both : take (length (dashes (b ∷ bs)) + 1) (45 ∷ t) ≡ dashes ((b ∷ bs) ++ ([] ∷ [])) =
     ap (take (length (dashes (b ∷ bs)) + 1)) all
     ∙ take-append-add (dashes (b ∷ bs)) (dashes (p ∷ after)) 1 ∙ sym ends in
-    let one_more : suc (length (dashes (b ∷ bs))) ≡ length (dashes (b ∷ bs)) + 1 = omega arith in
-    let more : 45 ∷ take (length (dashes (b ∷ bs))) t ≡ 45 ∷ join ((b ∷ bs) ++ ([] ∷ [])) =
-    ap (λ (n : ℕ). take n (45 ∷ t)) one_more ∙ both
-    ∙ ap (λ q. 45 ∷ q) (sym (join-dashes b (bs ++ ([] ∷ [])))) in
-    cc
+    grind (arith, join-dashes)
 
 pub before_piece : (t p : Text) (before after : List Text) (start : ℕ) → pieces t ≡ before ++ (p ∷ after) →
     start ≡ length (dashes before) → pieces_before t start ≡ before
@@ -70,11 +66,7 @@ left_out ((c ∷ p) ∷ q ∷ ps) = grind (arith, left_out (q ∷ ps))
 
 pub before_end : (mode : Mode) (t : Text) (start : ℕ) → start ≡ length t → GoOn mode (pieces t) →
     GoOn mode (pieces_before t start)
-before_end mode t start s g =
-    let r = left_out (pieces t) in
-    let same : take start t ≡ t = take_all start t (omega arith) in
-    subst (λ (q : Text). GoOn mode (without_empty (pieces q))) (sym same)
-    (fewer (without_empty (pieces t)) r.0 (subst (GoOn mode) r.1 g))
+before_end mode t start s g = let r = left_out (pieces t) in grind (arith, take_all, fewer)
 
 -- ---- something may stand there
 

@@ -118,8 +118,7 @@ module _ (mode : Mode) (t : Text) (from last : Cursor) (r : Reading) (all : piec
   refused_is n m e =
       let rest = some_left last in
       no_more mode h.done (piece_left last) (without_empty rest.0) (without_empty (pieces t))
-      (ap without_empty (sym all ∙ h.cut ∙ ap (λ qs. h.done ++ qs) rest.1)
-      ∙ with_piece h.done (piece_left last) rest.0 (some_last n m))
+      (grind (arith, with_piece, some_last))
       (ran_one h.up_to (piece_left last) None e)
 
   pub all_is : last.piece_length ≡ last.remaining → last.remaining ≢ 0 → IsShortPiece (piece_left last)

@@ -106,11 +106,7 @@ block_made : (mode : Mode) (part : Part) (seen : List ℕ) (c : ℕ) (keyed : Bo
     IsReadAt r.part (keyed_after keyed r.part p) (InExtension (to_ascii_lowercase c) [])
 block_made Langid part seen c keyed p r e = cc
 block_made Locale part seen c keyed p r e =
-    let m = of_if _ _ r e in
-    let a = (and_parts _ _ (and_parts _ _ m.0).0).1 in
-    subst (λ (x : Reached).
-    IsReadAt x.part (keyed_after keyed x.part p) (InExtension (to_ascii_lowercase c) []))
-    m.1 (begun (to_ascii_lowercase c) (lower_letter c a) keyed p)
+    let m = of_if _ _ r e in grind (arith, and_parts, begun, lower_letter)
 block_made Data (Head stage) seen c keyed p r e = grind (arith, of_if, eqb-true)
 block_made Data _ seen c keyed p r e = cc
 
@@ -226,9 +222,6 @@ module _ (keyed : Bool) (w : Place) (p : Text) where
       IsReadAt part keyed w → next mode (reached part vs seen) p ≡ Some r → Made r.part
   next_made mode part vs seen r at e = elim (cases_Bool (begins_block part p)) [
     | inl b ↦
-        let h = and_parts _ _ b in
-        subst (λ (x : Place). IsReadAt r.part (keyed_after keyed r.part p) x)
-        (sym (begins (outside part keyed w at (not-true _ h.1)) p h.0))
-        (block_made mode part seen (slice_index p 0) keyed p r (rw b at e))
+        grind (arith, and_parts, begins, outside, not-true, block_made, slice_index)
     | inr b ↦ inside_made mode part vs seen r at b (rw b at e)
   ]

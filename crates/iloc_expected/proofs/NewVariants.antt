@@ -99,15 +99,7 @@ pick n most (suc m) new ts h = elim (cases_lt (length (tails (letter m) ts)) mos
   }
   | inr more ↦
       let few = fewer (letter m) ts in
-      let w = pick n most m new (others (letter m) ts) (omega arith) in record {
-        place = w.place;
-        less = let l = w.less in omega arith;
-        rest = w.rest;
-        long = w.long;
-        letters = w.letters;
-        none = none_by_others (letter m) (letter w.place) w.rest ts
-            (letters_apart w.place m w.less) w.none;
-      }
+      grind (arith, pick n most m new (others (letter m) ts) (omega arith), none_by_others, letters_apart)
 ]
 
 pub power : ℕ → ℕ
@@ -118,15 +110,7 @@ new_word : (n : ℕ) → HasNew n (power n)
 unfolding power
 new_word zero [] h = grind arith
 new_word zero (t ∷ ts) h = absurd (omega arith)
-new_word (suc n) ts h =
-    let w = pick n (power n) 32 (new_word n) ts h in (
-      letter w.place ∷ w.rest,
-      record {
-        long = ap suc w.long;
-        letters = (letter_is w.place w.less, w.letters);
-        none = w.none;
-      },
-    )
+new_word (suc n) ts h = let w = pick n (power n) 32 (new_word n) ts h in grind (arith, letter_is)
 
 -- ---- so it is a variant
 
@@ -163,14 +147,4 @@ pub record IsNewVariant (vs : List Text) (v : Text) : Type 0 where
 
 pub new_variant : (vs : List Text) → length vs < 2 ^ 40 → (v : Text) × IsNewVariant vs v
 unfolding power
-new_variant vs h =
-    let w = new_word 8 vs h in (
-      w.0,
-      record {
-        long = w.1.long;
-        word = variant_is w.0 w.1.long w.1.letters;
-        low = lower_is w.0 w.1.letters;
-        free = free_is w.0 w.1.letters;
-        none = none_is w.0 vs w.1.none;
-      },
-    )
+new_variant vs h = let w = new_word 8 vs h in grind (arith, variant_is, lower_is, free_is, none_is)

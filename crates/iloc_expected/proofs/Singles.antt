@@ -39,17 +39,7 @@ place_small c h = grind (arith, nat_tests)
 module _ (bits : ℕ) (seen : List ℕ) (left : Bool) (h : AreSingletonsSeen bits seen) where
   pub has_left : (left ≡ true → (k : ℕ) × (k < 36) × (bit_at bits k ≡ 0)) → HasLeft seen left
   has_left some e =
-      let k = some e in
-      let a = byte_letter k.0 k.1 in (
-        byte_of k.0,
-        record {
-          letter = a;
-          new = false_from_ne_true _ (λ s.
-              let one = (h (byte_of k.0) a).1 s in
-              let zero = ap (bit_at bits) (byte_place k.0 k.1) ∙ k.2 in
-              absurd (omega (arith, one, zero)));
-        },
-      )
+      let k = some e in let a = byte_letter k.0 k.1 in grind (arith, false_from_ne_true, byte_place)
 
   pub is_left : (left ≡ false → (k : ℕ) → k < 36 → bit_at bits k ≡ 1) → IsLeft seen left
   is_left none e c a = grind (arith, place_small)

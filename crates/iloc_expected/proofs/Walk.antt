@@ -137,8 +137,7 @@ module _ {mode : Mode} {ps : List Text} {from at : Cursor} {r : Reading} (h : Is
         IsReadOn mode ps from m q
     loop_on {m = m} q x n = record {
       done = h.done ++ (piece_left at ∷ []);
-      cut = h.cut ∙ ap (λ qs. h.done ++ qs) n.pieces
-          ∙ sym (append_assoc h.done (piece_left at ∷ []) (pieces_left m));
+      cut = grind (arith, append_assoc);
       up_to = subst (λ (qs : List Text). IsReadUpTo mode qs m q) (append_assoc ps h.done (piece_left at ∷ []))
           (read_more h.up_to q x n);
     }
@@ -151,11 +150,7 @@ module _ {mode : Mode} {ps : List Text} {from at : Cursor} {r : Reading} (h : Is
       piece = piece_left at;
       rest = rest.0;
       cut = h.cut ∙ ap (λ qs. h.done ++ qs) rest.1;
-      counts = λ z f. let none : bytes_left at ≡ [] = sym (join-pieces (bytes_left at))
-          ∙ ap join (rest.1 ∙ ap (λ qs. piece_left at ∷ qs) f ∙ ap (λ q. q ∷ []) z) ∙ nothing in
-          let short : IsShortPiece (piece_left at) = omega (arith, ap length z) in
-          let l = length_piece at short in
-          n (omega (arith, l, ap length z, length_rest at, ap length none));
+      counts = grind (arith, join-pieces, nothing, length_piece, length_rest);
       stops = ran_one h.up_to (piece_left at) None e;
     }
 
@@ -236,7 +231,4 @@ few_pieces t = at_pieces (λ ps. length (dashes ps) ≡ length t + 1 → length 
 
 -- a text cut at the place, or not at all
 pub same_cut : (t : Text) (place n : ℕ) → n ≡ min (length t) place → take n t ≡ take place t
-same_cut t place n e = elim (cases_lt place (length t)) [
-  | inl less ↦ ap (λ (m : ℕ). take m t) (omega arith)
-  | inr more ↦ take_all n t (omega arith) ∙ sym (take_all place t more)
-]
+same_cut t place n e = grind (arith, cases_lt, take_all)

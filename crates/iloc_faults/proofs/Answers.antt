@@ -1,17 +1,15 @@
 -- The outcome, found piece by piece, says whether a text is accepted, and the fault of an identifier or a
 -- locale.
-use Rattle.std.proofs.Common.{◌≡◌, ◌≢◌, true, List, ◌∷◌, Option, Some, None, Result, Ok, Err, MatchResult}
-use Rattle.std.proofs.Common.{refl, sym, ap, ◌∙◌, subst, true≢false, ◌↔◌, arith}
-use Rattle.iloc_spec_grammar.specs.Syntax.{Text, languages, pieces, head, tail_blocks, Identifier}
+use Rattle.std.proofs.Common.{◌≡◌, ◌≢◌, true, List, ◌∷◌, Option, Some, None, Result, Ok, Err, MatchResult, refl, sym, ap, ◌∙◌, subst, true≢false, ◌↔◌, arith}
+use Rattle.iloc_spec_grammar.specs.Syntax.{Text, languages, pieces, Identifier}
 use Rattle.iloc_spec_grammar.specs.Meaning.{Fault, Means, IdentifierMeans, HasFault, HasIdentifierFault}
 use Rattle.iloc_spec_grammar.specs.Computing.{identifier_result, locale_result}
 use Rattle.iloc_spec_grammar.proofs.RawLaws.{languages_table}
 use Rattle.iloc_spec_grammar.proofs.PiecesLaws.{at_pieces}
-use Rattle.iloc_spec_grammar.proofs.ComputingLaws.{locale_answers, computed_means, computed_identifier}
-use Rattle.iloc_spec_grammar.proofs.ComputingLaws.{text_identifier_answers}
-use Rattle.iloc_spec_parts.specs.SmallComputing.{small_result, after_identifier, small_identifier_result}
+use Rattle.iloc_spec_grammar.proofs.ComputingLaws.{locale_answers, computed_means, computed_identifier, text_identifier_answers}
+use Rattle.iloc_spec_parts.specs.SmallComputing.{small_result}
 use Rattle.iloc_spec_parts.specs.DataLocales.{DataMeans, HasDataFault}
-use Rattle.iloc_spec_parts.specs.DataComputing.{data_of_result, data_result}
+use Rattle.iloc_spec_parts.specs.DataComputing.{data_result}
 use Rattle.iloc_spec_parts.proofs.DataLaws.{data_answer, data_apart}
 use Rattle.iloc_normalize.specs.Modes.{IsFaulty}
 use Rattle.iloc_normalize.specs.declared.Mode.{Mode}
@@ -53,11 +51,7 @@ locale_answer t = let s = some_pieces t in
 
 pub data_fine : (t : Text) → fine (outcome Data started (pieces t)) ≡ is_ok (data_result languages t)
 unfolding data_result small_result
-data_fine t = let s = some_pieces t in
-    ap (λ ps. fine (outcome Data started ps)) s.2 ∙ data_verdict s.0 s.1 ∙ sym (data_ok s.0 s.1)
-    ∙ sym (ap (λ ps.
-    is_ok (data_of_result (after_identifier (small_identifier_result languages (head ps)) (tail_blocks ps))))
-    s.2)
+data_fine t = let s = some_pieces t in grind (arith, fine, data_verdict, data_ok, is_ok)
 
 -- ---- so it is that of the definitions
 

@@ -1,15 +1,12 @@
 -- The bits of singletons, and what else the reader knows of bytes.
-use Rattle.std.proofs.Common.{◌≡◌, ◌≢◌, ℕ, ◌+◌, ◌-◌, ◌<◌, ◌≤◌, ◌^◌, Bool, true, false, ◌||◌, List, [], ◌∷◌}
-use Rattle.std.proofs.Common.{length, take, drop, Option, IfSome, codes, max, refl, sym, ap, ◌∙◌, arith}
-use Rattle.std.proofs.Common.{is_some}
+use Rattle.std.proofs.Common.{◌≡◌, ◌≢◌, ℕ, ◌+◌, ◌-◌, ◌<◌, ◌≤◌, ◌^◌, Bool, true, false, ◌||◌, List, [], ◌∷◌, length, take, drop, Option, IfSome, codes, max, refl, sym, ap, ◌∙◌, arith, is_some}
 use Rattle.std.specs.Char.{is_ascii_alphanumeric, to_ascii_lowercase}
 use Rattle.std.specs.Int.{bit_at}
 use lib.Bits.{bit_and, bit_or}
 use Rattle.std.proofs.lemmas.Bool.{or_cases, cases_eq}
 use Rattle.std.proofs.lemmas.Bool.Decides.{nat_tests}
 use Rattle.std.proofs.lemmas.Nat.Bits.{and_pow, bit_at_or, bit_at-pow_same, bit_at-pow_other}
-use Rattle.iloc_spec_grammar.specs.Syntax.{Text, languages, Language, TransformKey}
-use Rattle.iloc_spec_grammar.specs.Syntax.{Attribute, is_word, lower, is_same}
+use Rattle.iloc_spec_grammar.specs.Syntax.{Text, languages, Language, TransformKey, Attribute, is_word, lower, is_same}
 use Rattle.iloc_spec_grammar.specs.Syntax as kinds
 use Rattle.iloc_spec_parts.specs.DataLocales.{named_subdivision}
 use Rattle.iloc_spec_grammar.proofs.MapLaws.{same_is}
@@ -17,9 +14,7 @@ use Rattle.iloc_spec_grammar.proofs.WordsLaws.{length-lower}
 use Rattle.iloc_spec_grammar.proofs.Singletons.{untied, self_tied}
 use Rattle.iloc_pieces.specs.Cursor.{IsShortPiece, piece_left}
 use Rattle.iloc_pieces.specs.declared.place.Cursor.{Cursor}
-use Rattle.iloc_pieces.proofs.CursorLemmas.{short_language, short_key, short_field_key, short_attribute}
-use Rattle.iloc_pieces.proofs.CursorLemmas.{short_private, between_short, piece_inside, short_bytes}
-use Rattle.iloc_pieces.proofs.CursorLemmas.{length_piece}
+use Rattle.iloc_pieces.proofs.CursorLemmas.{short_language, short_key, short_field_key, short_attribute, short_private, between_short, piece_inside, short_bytes, length_piece}
 use Rattle.iloc_faults.specs.declared.state.Part.{Part}
 use Rattle.iloc_faults.specs.declared.state.Part.TheVariants.{SubdivisionValue}
 use Rattle.iloc_faults.specs.Next.{is_seen, when, piece_next, subdivision_next}

@@ -1,15 +1,11 @@
 -- What follows a singleton, one piece more: what the rules of the grammar ask of the rest.
-use Rattle.std.proofs.Common.{◌≡◌, ℕ, suc, ◌+◌, Bool, true, false, cond, ◌&&◌, ◌||◌, List, [], ◌∷◌}
-use Rattle.std.proofs.Common.{length, nat_lt, refl, ap₂, arith}
+use Rattle.std.proofs.Common.{◌≡◌, ℕ, suc, ◌+◌, Bool, true, false, cond, ◌&&◌, ◌||◌, List, [], ◌∷◌, length, nat_lt, refl, ap₂, arith}
 use Rattle.std.specs.List.{list_all}
 use Rattle.std.specs.Int.{is_in_range}
 use Rattle.std.proofs.lemmas.Bool.{cases_Bool, false_from_ne_true, lt-ltb}
-use Rattle.iloc_spec_grammar.specs.Syntax.{Text, Fields, Language, UnicodeKey}
-use Rattle.iloc_spec_grammar.specs.Syntax.{TransformKey, Attribute, Subtag, languages, is_word, IsWord}
-use Rattle.iloc_spec_grammar.specs.Reading.{take_first, is_two, before_key, fields_from}
-use Rattle.iloc_spec_grammar.specs.Reading.{identifier_of, front_of, unicode_of, transform_of}
-use Rattle.iloc_spec_grammar.specs.Computing.{holds_if_some, is_identifier, is_keyword}
-use Rattle.iloc_spec_grammar.specs.Computing.{is_unicode, is_field, is_transform, is_other, repeats_variant}
+use Rattle.iloc_spec_grammar.specs.Syntax.{Text, Fields, Language, UnicodeKey, TransformKey, Attribute, Subtag, languages, is_word, IsWord}
+use Rattle.iloc_spec_grammar.specs.Reading.{take_first, is_two, before_key, fields_from, identifier_of, front_of, unicode_of, transform_of}
+use Rattle.iloc_spec_grammar.specs.Computing.{holds_if_some, is_identifier, is_keyword, is_unicode, is_field, is_transform, is_other, repeats_variant}
 use Rattle.iloc_spec_grammar.proofs.WordsLaws.{length-attribute, length-unicode_key, length-transform_key}
 use Rattle.iloc_faults.proofs.Words.{good, repeats}
 use Rattle.iloc_spec_grammar.proofs.Readings.{language_no_key}

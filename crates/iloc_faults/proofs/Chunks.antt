@@ -1,6 +1,5 @@
 -- Chunks of the variants that are left, compared with those after them.
-use Rattle.std.proofs.Common.{◌≡◌, inl, inr, ℕ, ◌+◌, ◌-◌, ◌<◌, ◌≤◌, List, [], ◌∷◌, ◌++◌, length, ◌/◌}
-use Rattle.std.proofs.Common.{refl, sym, ap, ◌∙◌, subst, arith, append_assoc, append-nil, length-append}
+use Rattle.std.proofs.Common.{◌≡◌, inl, inr, ℕ, ◌+◌, ◌-◌, ◌<◌, ◌≤◌, List, [], ◌∷◌, ◌++◌, length, ◌/◌, refl, sym, ap, ◌∙◌, subst, arith, append_assoc, append-nil, length-append}
 use Rattle.std.specs.Ordering.{nat_cmp, ord_min}
 use Rattle.std.proofs.lemmas.List.Sorted.{IsPermutation-sym}
 use Rattle.std.proofs.lemmas.Map.Keys.{IsDistinct-IsPermutation}
@@ -10,9 +9,7 @@ use Rattle.std.specs.List.Sorted.{IsPermutation}
 use Rattle.iloc_pieces.specs.declared.place.Cursor.{Cursor}
 use Rattle.iloc_faults.specs.States.{AreNew}
 use Rattle.iloc_faults.specs.Numbers.{same, AreNumbersAt, AreDistinct, AreOthers, ComeBefore}
-use Rattle.iloc_faults.proofs.NewNumbers.{Cut, cut_at, longer, rest_distinct, both_distinct, others_both}
-use Rattle.iloc_faults.proofs.NewNumbers.{others_first, others_rest, others_moved, Repeats, new_numbers}
-use Rattle.iloc_faults.proofs.NewNumbers.{laws, repeats_part, begins_moved}
+use Rattle.iloc_faults.proofs.NewNumbers.{Cut, cut_at, longer, rest_distinct, both_distinct, others_both, others_first, others_rest, others_moved, Repeats, new_numbers, laws, repeats_part, begins_moved}
 
 -- those before the place differ, and so many after it are none of them; the next repeats one, if there is a
 -- next
@@ -31,10 +28,7 @@ pub record IsCompared (all : List ℕ) (at : Cursor) (done fresh : ℕ) : Type 0
 -- where a chunk is passed and all the others are new, the next is the same
 same_ends : (before new first rest others later end : List ℕ) → new ≡ first ++ rest → rest ≡ others →
     later ≡ end → Repeats (before ++ new) end → Repeats ((before ++ first) ++ others) later
-same_ends before new first rest others later end e f g h =
-    let both : before ++ new ≡ (before ++ first) ++ others =
-    ap (λ ns. before ++ ns) (e ∙ ap (λ ns. first ++ ns) f) ∙ sym (append_assoc before first others) in
-    subst (λ (ns : List ℕ). Repeats ns later) both (subst (Repeats (before ++ new)) (sym g) h)
+same_ends before new first rest others later end e f g h = grind (arith, append_assoc, Repeats)
 
 pub record IsLeast (m a b : ℕ) : Type 0 where
   pub first : m ≤ a
@@ -83,8 +77,7 @@ module _ {all : List ℕ} {at : Cursor} {done fresh : ℕ} (w : IsCompared all a
     chunk = cut_at count w.new (omega (arith, w.reach, few))
 
     pub chunk_here : AreNumbersAt at (chunk.first ++ (chunk.later ++ w.later))
-    chunk_here = subst (AreNumbersAt at)
-        (ap (λ ns. ns ++ w.later) chunk.is ∙ append_assoc chunk.first chunk.later w.later) w.here
+    chunk_here = grind (arith, append_assoc)
 
     -- a number comes twice in it
     pub compare_less : 0 < count → ¬ (AreDistinct chunk.first) → IsCompared all at done (done + count - 1)
@@ -140,19 +133,13 @@ module _ {all : List ℕ} {at : Cursor} {done fresh : ℕ} (w : IsCompared all a
           before = w.before ++ chunk.first;
           new = o.others;
           later = o.later;
-          cut = w.cut
-              ∙ ap (λ ns. w.before ++ ns) (ap (λ ns. ns ++ w.later) chunk.is
-              ∙ append_assoc chunk.first chunk.later w.later ∙ ap (λ ns. chunk.first ++ ns) o.cut)
-              ∙ sym (append_assoc w.before chunk.first (o.others ++ o.later));
+          cut = grind (arith, append_assoc);
           here = subst (AreNumbersAt m) o.cut here;
           passed = omega (arith, w.passed, chunk.long, length-append w.before chunk.first);
           reach = omega (arith, o.long);
-          distinct = both_distinct w.before chunk.first w.distinct d
-              (others_first w.before chunk.first chunk.later (subst (AreOthers w.before) chunk.is w.others));
+          distinct = grind (arith, both_distinct, others_first);
           others = others_both w.before chunk.first o.others
-              (others_first w.before o.others more.0 (subst (AreOthers w.before) more.1
-              (others_rest w.before chunk.first chunk.later
-              (subst (AreOthers w.before) chunk.is w.others))))
+              (grind (arith, others_first, others_rest))
               (others_moved chunk.first ms o.others p o.differ);
           ends = elim o.ends [
             | inl e ↦ all_differ more.0 more.1 more.2
@@ -197,11 +184,7 @@ module _ {all : List ℕ} {at : Cursor} {done fresh : ℕ} (w : IsCompared all a
   with_twice h =
       let here : ¬ (AreDistinct words) =
       λ d. h (IsDistinct-IsPermutation same laws.symm words sorted moves d) in
-      let two : 2 ≤ count = omega (arith, long, few_distinct words here) in (
-        compare_less w count few (omega (arith, two)) (λ d. here (subst AreDistinct (sym both.0) d)),
-        le-div 1 count 2 (omega arith) (omega (arith, two)),
-        omega (arith, div-add-mod' count 2),
-      )
+      grind (arith, few_distinct, compare_less, both, le-div, div-add-mod')
 
   -- none comes twice
   pub with_once : AreDistinct sorted → (found : ℕ) →

@@ -1,27 +1,20 @@
 -- What the fault of the rest of a locale is, by what was read last: that of the rules of the grammar.
-use Rattle.std.proofs.Common.{◌≡◌, ℕ, Bool, true, false, not, cond, ◌&&◌, ◌==◌, List, [], ◌∷◌, length}
-use Rattle.std.proofs.Common.{Option, Some, None, nat_lt, refl, ◌∙◌, arith}
+use Rattle.std.proofs.Common.{◌≡◌, ℕ, Bool, true, false, not, cond, ◌&&◌, ◌==◌, List, [], ◌∷◌, length, Option, Some, None, nat_lt, refl, ◌∙◌, arith}
 use Rattle.std.specs.List.{list_all}
 use Rattle.std.specs.Char.{is_ascii_alphanumeric, to_ascii_lowercase}
 use Rattle.std.proofs.lemmas.Bool.{and_parts, not-true, or_parts}
-use Rattle.iloc_spec_grammar.specs.Syntax.{code_u, Text, Block, code_t, code_x, PrivateSubtag, languages}
-use Rattle.iloc_spec_grammar.specs.Syntax.{is_word}
-use Rattle.iloc_spec_grammar.specs.Syntax.{word_cmp, lower_singleton, is_other_singleton, front, blocks}
+use Rattle.iloc_spec_grammar.specs.Syntax.{code_u, Text, Block, code_t, code_x, PrivateSubtag, languages, is_word, word_cmp, lower_singleton, is_other_singleton, front, blocks}
 use Rattle.iloc_spec_grammar.specs.Meaning.{Fault, InvalidSubtag, InvalidExtension, DuplicatedExtension}
 use Rattle.iloc_spec_grammar.specs.Reading.{transform_of}
-use Rattle.iloc_spec_grammar.specs.Computing.{all_different, is_transform, is_other, is_private, is_block}
-use Rattle.iloc_spec_grammar.specs.Computing.{first_fault, repeats_variant}
+use Rattle.iloc_spec_grammar.specs.Computing.{all_different, is_transform, is_other, is_private, is_block, first_fault, repeats_variant}
 use Rattle.iloc_spec_grammar.proofs.Singletons.{IsKind, of_u, of_t, of_x, another, kind_of, lower_letter}
 use Rattle.iloc_normalize.specs.declared.Mode.TheVariants.{Locale}
 use Rattle.iloc_faults.specs.declared.state.Part.{Part}
-use Rattle.iloc_faults.specs.declared.state.Part.TheVariants.{Head, Transform, Source, FieldKey, FieldValue}
-use Rattle.iloc_faults.specs.declared.state.Part.TheVariants.{Unicode, Keyword, Other, OtherWord, Private}
-use Rattle.iloc_faults.specs.declared.state.Part.TheVariants.{PrivateWord}
+use Rattle.iloc_faults.specs.declared.state.Part.TheVariants.{Head, Transform, Source, FieldKey, FieldValue, Unicode, Keyword, Other, OtherWord, Private, PrivateWord}
 use Rattle.iloc_faults.specs.declared.state.Stage.{Stage}
 use Rattle.iloc_faults.specs.Next.{Reached, plain, may_end, takes_any, part_of, is_seen, outcome}
 use Rattle.iloc_faults.proofs.Words.{good, repeats, good_end}
-use Rattle.iloc_faults.proofs.Bodies.{of_unicode, unicode_is, has_length, after_value, after_key, or_false}
-use Rattle.iloc_faults.proofs.Bodies.{after_word, repeats_none}
+use Rattle.iloc_faults.proofs.Bodies.{of_unicode, unicode_is, has_length, after_value, after_key, or_false, after_word, repeats_none}
 
 -- the fault of the blocks that follow, if the block is good
 abbrev pub block_answer : Bool → Text → List Text → Option Fault

@@ -1,24 +1,19 @@
 -- A data locale is accepted piece by piece exactly if the definitions accept it.
-use Rattle.std.proofs.Common.{◌≡◌, inl, inr, ℕ, suc, ◌+◌, ◌≤◌, Bool, true, false, cond, ◌&&◌}
-use Rattle.std.proofs.Common.{nat_le, List, [], ◌∷◌, length, Option, Some, None, MatchOption, is_some}
-use Rattle.std.proofs.Common.{option_and_then, codes, Result, Ok, Err, refl, sym, ap, ◌∙◌, arith}
+use Rattle.std.proofs.Common.{◌≡◌, inl, inr, ℕ, suc, ◌+◌, ◌≤◌, Bool, true, false, cond, ◌&&◌, nat_le, List, [], ◌∷◌, length, Option, Some, None, MatchOption, is_some, option_and_then, codes, Result, Ok, Err, refl, sym, ap, ◌∙◌, arith}
 use Rattle.std.specs.List.{list_all}
 use Rattle.std.proofs.lemmas.Bool.{cases_Bool, and_right, eqb-true}
-use Rattle.iloc_spec_grammar.specs.Syntax.{Text, Block, Language, Variant, UnicodeKey, Attribute, languages}
-use Rattle.iloc_spec_grammar.specs.Syntax.{is_word, lower, is_same, is_true, is_one_byte, front, blocks}
+use Rattle.iloc_spec_grammar.specs.Syntax.{Text, Block, Language, Variant, UnicodeKey, Attribute, languages, is_word, lower, is_same, is_true, is_one_byte, front, blocks}
 use Rattle.iloc_spec_grammar.specs.Meaning.{Fault, normal_values}
 use Rattle.iloc_spec_grammar.specs.Reading.{first_item, identifier_of}
 use Rattle.iloc_spec_grammar.proofs.Singletons.{two_more}
 use Rattle.iloc_spec_grammar.proofs.MapLaws.{same_is}
 use Rattle.iloc_spec_grammar.proofs.WordsLaws.{is_word-lower}
 use Rattle.iloc_spec_parts.specs.Small.{SmallIdentifier}
-use Rattle.iloc_spec_parts.specs.SmallComputing.{is_u, has_small_keyword, is_small_block, keyword_read}
-use Rattle.iloc_spec_parts.specs.SmallComputing.{small_identifier_result, blocks_result, after_identifier}
+use Rattle.iloc_spec_parts.specs.SmallComputing.{is_u, has_small_keyword, is_small_block, keyword_read, small_identifier_result, blocks_result, after_identifier}
 use Rattle.iloc_spec_parts.specs.DataLocales.{named_subdivision}
 use Rattle.iloc_spec_parts.specs.DataComputing.{data_of_result}
 use Rattle.iloc_normalize.specs.declared.Mode.TheVariants.{Data}
-use Rattle.iloc_faults.specs.declared.state.Part.TheVariants.{Head, Subdivision, SubdivisionKey}
-use Rattle.iloc_faults.specs.declared.state.Part.TheVariants.{SubdivisionValue}
+use Rattle.iloc_faults.specs.declared.state.Part.TheVariants.{Head, Subdivision, SubdivisionKey, SubdivisionValue}
 use Rattle.iloc_faults.specs.declared.state.Stage.{Stage}
 use Rattle.iloc_faults.specs.declared.state.Stage.TheVariants as stages
 use Rattle.iloc_faults.specs.Next.{plain, started, after_region_next, after_script_next, word_next, outcome}
@@ -131,23 +126,11 @@ record Claims (ps : List Text) : Type 0 where
       ≡ (few stage vs (front ps) && data_tail (blocks ps))
 
 at_end : Claims []
-at_end = record {
-  last = λ seen. refl;
-  value = λ seen. refl;
-  key = λ seen. refl;
-  head = λ stage vs seen d. let g = few_end stage vs d in rw g refl;
-}
+at_end = grind (arith, few_end)
 
 at_single : (c : ℕ) {ps : List Text} → Claims ps → Claims ((c ∷ []) ∷ ps)
-at_single c {ps = ps} at = let none = single_some c ps in record {
-  last = λ seen. sym (and_right (trues (front ((c ∷ []) ∷ ps))) _ none);
-  value = λ seen. sym (and_right (value (front ((c ∷ []) ∷ ps))) _ none);
-  key = λ seen. sym (and_right (keyword (front ((c ∷ []) ∷ ps))) _ none);
-  head = λ stage vs seen d. let g = few_end stage vs d in rw g (elim (cases_Bool (is_u c)) [
-    | inl e ↦ let u = tail_of_u c ps e in rw u (rw e (at.key seen))
-    | inr e ↦ let u = tail_of_other c ps e in rw u (rw e refl)
-  ]);
-}
+at_single c {ps = ps} at =
+    grind (arith, single_some, and_right, few_end, cases_Bool, tail_of_u, tail_of_other)
 
 module _ (p : Text) (ps : List Text) (long : is_one_byte p ≡ false) (passed : blocks (p ∷ ps) ≡ blocks ps)
     (at : Claims ps) where

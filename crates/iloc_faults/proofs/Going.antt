@@ -1,15 +1,12 @@
 -- Pieces go on exactly if all of them may come one after another.
-use Rattle.std.proofs.Common.{◌≡◌, ℕ, true, false, List, [], ◌∷◌, ◌++◌, Option, Some, None, codes, refl}
-use Rattle.std.proofs.Common.{sym, ap, ◌∙◌, subst, arith}
+use Rattle.std.proofs.Common.{◌≡◌, ℕ, true, false, List, [], ◌∷◌, ◌++◌, Option, Some, None, codes, refl, sym, ap, ◌∙◌, subst, arith}
 use Rattle.std.specs.List.{AllByRecursion}
-use Rattle.iloc_spec_grammar.specs.Syntax.{Text, languages, is_word, is_true, lower, pieces, join}
-use Rattle.iloc_spec_grammar.specs.Syntax.{IsHyphenFree}
+use Rattle.iloc_spec_grammar.specs.Syntax.{Text, languages, is_word, is_true, lower, pieces, join, IsHyphenFree}
 use Rattle.iloc_spec_grammar.proofs.PiecesLaws.{pieces-join, pieces_hyphen_free}
 use Rattle.iloc_spec_grammar.proofs.ReadBack.{all_append}
 use Rattle.iloc_normalize.specs.declared.Mode.{Mode}
 use Rattle.iloc_faults.specs.declared.state.Part.{Part}
-use Rattle.iloc_faults.specs.declared.state.Part.TheVariants.{Start, Transform, FieldKey, Unicode, Other}
-use Rattle.iloc_faults.specs.declared.state.Part.TheVariants.{Private, Subdivision, SubdivisionKey}
+use Rattle.iloc_faults.specs.declared.state.Part.TheVariants.{Start, Transform, FieldKey, Unicode, Other, Private, Subdivision, SubdivisionKey}
 use Rattle.iloc_faults.specs.Next.{Reached, started, next, outcome, run}
 use Rattle.iloc_faults.specs.Places.{GoOn}
 use Rattle.iloc_faults.proofs.DataSteps.{fine}

@@ -1,29 +1,21 @@
 -- The fault of a locale, found piece by piece, is that of the grammar.
-use Rattle.std.proofs.Common.{◌≡◌, inl, inr, ℕ, Bool, true, false, not, cond, ◌&&◌, List, [], ◌∷◌, length}
-use Rattle.std.proofs.Common.{Option, Some, None, MatchOption, nat_lt, refl, ap, ◌∙◌, arith}
+use Rattle.std.proofs.Common.{◌≡◌, inl, inr, ℕ, Bool, true, false, not, cond, ◌&&◌, List, [], ◌∷◌, length, Option, Some, None, MatchOption, nat_lt, refl, ap, ◌∙◌, arith}
 use Rattle.std.specs.List.{list_any, list_all}
 use Rattle.std.specs.Ordering.{eq_by_cmp}
 use Rattle.std.proofs.lemmas.Bool.{cases_Bool}
-use Rattle.iloc_spec_grammar.specs.Syntax.{Text, Language, Variant, TransformKey, Attribute, PrivateSubtag}
-use Rattle.iloc_spec_grammar.specs.Syntax.{languages, is_word, word_cmp, is_one_byte, front, blocks}
+use Rattle.iloc_spec_grammar.specs.Syntax.{Text, Language, Variant, TransformKey, Attribute, PrivateSubtag, languages, is_word, word_cmp, is_one_byte, front, blocks}
 use Rattle.iloc_spec_grammar.specs.Meaning.{Fault, InvalidLanguage, InvalidSubtag, InvalidExtension}
 use Rattle.iloc_spec_grammar.specs.Reading.{transform_of, identifier_of}
-use Rattle.iloc_spec_grammar.specs.Computing.{is_transform, is_other, is_private, is_identifier, is_field}
-use Rattle.iloc_spec_grammar.specs.Computing.{first_fault, repeats_variant}
+use Rattle.iloc_spec_grammar.specs.Computing.{is_transform, is_other, is_private, is_identifier, is_field, first_fault, repeats_variant}
 use Rattle.iloc_spec_grammar.proofs.Singletons.{two_more}
 use Rattle.iloc_normalize.specs.declared.Mode.TheVariants.{Locale}
-use Rattle.iloc_faults.specs.declared.state.Part.TheVariants.{Head, Transform, Source, FieldKey, FieldValue}
-use Rattle.iloc_faults.specs.declared.state.Part.TheVariants.{Unicode, Keyword, Other, OtherWord, Private}
-use Rattle.iloc_faults.specs.declared.state.Part.TheVariants.{PrivateWord}
+use Rattle.iloc_faults.specs.declared.state.Part.TheVariants.{Head, Transform, Source, FieldKey, FieldValue, Unicode, Keyword, Other, OtherWord, Private, PrivateWord}
 use Rattle.iloc_faults.specs.declared.state.Stage.{Stage}
 use Rattle.iloc_faults.specs.declared.state.Stage.TheVariants as stages
 use Rattle.iloc_faults.specs.Next.{plain, started, word_next, outcome}
 use Rattle.iloc_faults.proofs.Words.{good, repeats, good_after, repeats_after, good_end, no_next, word_step}
-use Rattle.iloc_faults.proofs.Bodies.{one_is_some, of_unicode, has_length, other_is, values, fields}
-use Rattle.iloc_faults.proofs.Bodies.{after_value, after_key, after_value_is, after_key_is, after_word}
-use Rattle.iloc_faults.proofs.Bodies.{field_is, key_no_language, transform_is, repeats_is, identifier_is}
-use Rattle.iloc_faults.proofs.Claims.{Claims, block_answer, transform_answer, head_answer, in_words, Differ}
-use Rattle.iloc_faults.proofs.Claims.{at_end, begins}
+use Rattle.iloc_faults.proofs.Bodies.{one_is_some, of_unicode, has_length, other_is, values, fields, after_value, after_key, after_value_is, after_key_is, after_word, field_is, key_no_language, transform_is, repeats_is, identifier_is}
+use Rattle.iloc_faults.proofs.Claims.{Claims, block_answer, transform_answer, head_answer, in_words, Differ, at_end, begins}
 use Rattle.iloc_pieces.proofs.RunWords.{and-true}
 use Rattle.iloc_pieces.proofs.Tests.{key_no_script, key_no_region, key_no_variant}
 
@@ -45,10 +37,8 @@ at_single c {ps = ps} at = record {
   source = λ stage vs seen d.
       let g = good_end stage vs d in rw (and-true, g) (begins at c (Source stage) vs seen refl refl);
   transform = λ seen. refl;
-  private_word = λ seen. elim (cases_Bool (is_word PrivateSubtag (c ∷ [])))
-      [ inl e ↦ rw e (at.private_word seen) | inr e ↦ rw e refl ];
-  private = λ seen. elim (cases_Bool (is_word PrivateSubtag (c ∷ [])))
-      [ inl e ↦ rw (e, one_is_some, and-true) (at.private_word seen) | inr e ↦ rw e refl ];
+  private_word = grind (arith, cases_Bool);
+  private = grind (arith, cases_Bool, one_is_some, and-true);
   head = λ stage vs seen d. let g = good_end stage vs d in rw g (begins at c (Head stage) vs seen refl refl);
 }
 
@@ -129,8 +119,7 @@ module _ (p : Text) (ps : List Text) (long : is_one_byte p ≡ false) (passed : 
       let c = key_no_variant p e in
       let n : word_next Locale stage vs p ≡ None = no_next Locale stage vs p a b c in
       let g = good_end stage vs d in
-      let s = (word_step Locale many stage vs p (front ps) d).repeats_is in
-      (rw e (rw g (field_is p (front ps) e)), s ∙ ap (λ o. repeats_after p o (front ps)) n ∙ c)
+      grind (arith, word_step, many, field_is, repeats_after)
 
   source : (stage : Stage) (vs : List Text) (seen : List ℕ) → Differ vs →
       outcome Locale (in_words Source stage vs seen) (p ∷ ps)

@@ -1,12 +1,8 @@
 -- Numbers of which none comes twice, and how many come before one that does.
-use Rattle.std.proofs.Common.{◌≡◌, inl, inr, ℕ, zero, suc, ◌+◌, ◌<◌, ◌≤◌, Bool, true, false, List, []}
-use Rattle.std.proofs.Common.{◌∷◌, ◌++◌, length, refl, sym, ap, ◌∙◌, subst, arith, append_assoc, append-nil}
-use Rattle.std.proofs.Common.{true≢false, get_or, take, drop, set, take_all, Result, Ok, Err, is_ok}
-use Rattle.std.proofs.Common.{MatchResult}
+use Rattle.std.proofs.Common.{◌≡◌, inl, inr, ℕ, zero, suc, ◌+◌, ◌<◌, ◌≤◌, Bool, true, false, List, [], ◌∷◌, ◌++◌, length, refl, sym, ap, ◌∙◌, subst, arith, append_assoc, append-nil, true≢false, get_or, take, drop, set, take_all, Result, Ok, Err, is_ok, MatchResult}
 use Rattle.std.specs.Prelude.{⊤}
 use Rattle.std.specs.List.{AllByRecursion, list_any}
-use Rattle.std.specs.List.Sorted.{IsPermutation, IsNonDecreasing, IsStrictlyIncreasing}
-use Rattle.std.specs.List.Sorted.{IsBinarySearchResult}
+use Rattle.std.specs.List.Sorted.{IsPermutation, IsNonDecreasing, IsStrictlyIncreasing, IsBinarySearchResult}
 use Rattle.std.specs.Ordering.{nat_cmp}
 use Rattle.std.specs.Cmp.{IsEquivalence, eq_by_cmp_equiv, nat_cmp_total}
 use Rattle.std.proofs.lemmas.Bool.{cases_lt, or_from}
@@ -14,9 +10,7 @@ use Rattle.std.proofs.lemmas.List.Folds.{list_any-append, list_any_at}
 use Rattle.std.proofs.lemmas.List.Sorted.{list_any-IsPermutation, searched}
 use Rattle.std.proofs.lemmas.List.{length-take-le, take_more_set}
 use Rattle.std.proofs.Math.Seq.{drop-cons, take-suc, take-append_seam}
-use Rattle.std.proofs.lemmas.Map.Keys.{IsDistinct-head, IsDistinct-tail, IsDistinct-push}
-use Rattle.std.proofs.lemmas.Map.Keys.{IsDistinct-from_sorted, apart_from_distinct}
-use Rattle.std.proofs.lemmas.Map.Keys.{sorted_from_strictly_increasing}
+use Rattle.std.proofs.lemmas.Map.Keys.{IsDistinct-head, IsDistinct-tail, IsDistinct-push, IsDistinct-from_sorted, apart_from_distinct, sorted_from_strictly_increasing}
 use Rattle.iloc_spec_grammar.proofs.ReadBack.{all_append}
 use Rattle.iloc_spec_grammar.proofs.Singletons.{untied}
 use Rattle.iloc_faults.specs.States.{AreNew}
@@ -73,10 +67,7 @@ is_other (x ∷ xs) y ys h =
 others_more : (xs : List ℕ) (y : ℕ) (ys : List ℕ) → AreOthers xs ys →
     AllByRecursion (λ z. same y z ≡ false) ys → AreOthers (xs ++ (y ∷ [])) ys
 others_more xs y [] h k = tt
-others_more xs y (z ∷ zs) h k = (
-  list_any-append (same z) xs (y ∷ []) ∙ or_from _ _ h.0 (or_from _ _ (laws.symm z y ∙ k.0) refl),
-  others_more xs y zs h.1 k.1,
-)
+others_more xs y (z ∷ zs) h k = grind (arith, list_any-append, or_from, others_more xs y zs h.1 k.1)
 
 pub both_distinct : (xs ys : List ℕ) → AreDistinct xs → AreDistinct ys → AreOthers xs ys →
     AreDistinct (xs ++ ys)
@@ -198,9 +189,7 @@ taken_more xs ns k x less few h e = grind (arith, take_more_set, take_one)
 -- all were written
 pub all_taken : (xs ns ks : List ℕ) (k : ℕ) → k ≡ length xs → length ns ≡ length xs →
     take k xs ≡ take k (ns ++ ks) → xs ≡ ns
-all_taken xs ns ks k e long h =
-    let n : k ≡ length ns = e ∙ sym long in
-    sym (take_all k xs (omega arith)) ∙ h ∙ ap (λ (j : ℕ). take j (ns ++ ks)) n ∙ take-append_seam ns ks
+all_taken xs ns ks k e long h = grind (arith, take_all, take-append_seam)
 
 -- ---- numbers that rise
 

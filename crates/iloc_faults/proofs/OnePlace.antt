@@ -1,6 +1,5 @@
 -- A text has one place of its fault.
-use Rattle.std.proofs.Common.{◌≡◌, ◌⊎◌, inl, inr, ℕ, List, [], ◌∷◌, ◌++◌, refl, sym, ap₂}
-use Rattle.std.proofs.Common.{◌∙◌, subst, append_assoc, arith}
+use Rattle.std.proofs.Common.{◌≡◌, ◌⊎◌, inl, inr, ℕ, List, [], ◌∷◌, ◌++◌, refl, sym, ◌∙◌, subst, append_assoc, arith}
 use Rattle.iloc_spec_grammar.specs.Syntax.{Text}
 use Rattle.iloc_normalize.specs.declared.Mode.{Mode}
 use Rattle.iloc_faults.specs.Places.{GoOn, StandsAtPiece, StandsAtEnd, IsFaultPlace}
@@ -18,14 +17,7 @@ same_cut : (xs ys : List Text) (p q : Text) (ps qs : List Text) → xs ++ (p ∷
 same_cut [] [] p q ps qs e = inl (refl, cc)
 same_cut [] (y ∷ ys) p q ps qs e = inr (inl (ys, cc))
 same_cut (x ∷ xs) [] p q ps qs e = inr (inr (xs, cc))
-same_cut (x ∷ xs) (y ∷ ys) p q ps qs e =
-    let head : x ≡ y = cc in
-    let tail : xs ++ (p ∷ ps) ≡ ys ++ (q ∷ qs) = cc in
-    elim (same_cut xs ys p q ps qs tail) [
-      | inl s ↦ inl (ap₂ ◌∷◌ head s.0, s.1)
-      | inr (inl s) ↦ inr (inl (s.0, ap₂ ◌∷◌ (sym head) s.1))
-      | inr (inr s) ↦ inr (inr (s.0, ap₂ ◌∷◌ head s.1))
-    ]
+same_cut (x ∷ xs) (y ∷ ys) p q ps qs e = grind (arith, same_cut xs ys p q ps qs cc)
 
 at_pieces : {mode : Mode} {t : Text} {a b c d : ℕ} → StandsAtPiece mode t a b → StandsAtPiece mode t c d →
     (a ≡ c) × (b ≡ d)

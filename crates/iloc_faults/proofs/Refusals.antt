@@ -1,6 +1,5 @@
 -- What a refusal says of the first piece: for its language a text is refused only if it begins with none.
-use Rattle.std.proofs.Common.{◌≡◌, ◌≢◌, ℕ, Bool, true, false, List, [], ◌∷◌, length, None, inl, refl, sym}
-use Rattle.std.proofs.Common.{ap, ◌∙◌, subst, arith}
+use Rattle.std.proofs.Common.{◌≡◌, ◌≢◌, ℕ, Bool, true, false, List, [], ◌∷◌, length, None, inl, refl, sym, ◌∙◌, subst, arith}
 use Rattle.iloc_spec_grammar.specs.Syntax.{Text, Language, languages, is_word, pieces, first_piece, Block}
 use Rattle.iloc_spec_grammar.specs.Meaning.{BlockFault, not_a_language, in_head, in_block}
 use Rattle.iloc_spec_grammar.specs.Meaning as faults
@@ -19,7 +18,7 @@ use Rattle.iloc_normalize.specs.Answered.{HasRefusal}
 use Rattle.iloc_normalize.specs.declared.Mode.{Mode}
 use Rattle.iloc_normalize.specs.declared.Mode.TheVariants.{Langid, Locale, Data}
 use Rattle.iloc_normalize.proofs.FrontAnswers.{head_language, no_language_refused}
-use Rattle.iloc_faults.specs.Next.{started, next, run}
+use Rattle.iloc_faults.specs.Next.{started, next}
 use Rattle.iloc_faults.specs.Places.{IsAccepted, IsFaultPlace}
 use Rattle.iloc_faults.proofs.Going.{goes_on, goes_no_longer}
 
@@ -91,8 +90,7 @@ first_place mode t e h is end to =
       after = cut.0;
       cut = cut.1;
       go_on = goes_on mode t [] (pieces t) started refl refl;
-      no_longer = goes_no_longer mode (first_piece (pieces t) ∷ [])
-          (ap (λ o. run mode o []) (stops_at_once mode (first_piece (pieces t)) none));
+      no_longer = grind (arith, goes_no_longer, stops_at_once);
       from = refl;
       to = omega (arith, to);
     })

@@ -1,30 +1,21 @@
 -- What the functions of the reader say of one piece more.
-use Rattle.std.proofs.Common.{◌≡◌, ◌≢◌, ◌==◌, ◌≤◌, ◌-◌, ℕ, suc, Bool, true, false, not, List, [], ◌∷◌, ◌++◌}
-use Rattle.std.proofs.Common.{map, slice_index, Option, Some, None, IfSome, option_map, refl, sym, ap}
-use Rattle.std.proofs.Common.{subst, arith}
+use Rattle.std.proofs.Common.{◌≡◌, ◌≢◌, ◌==◌, ◌≤◌, ◌-◌, ℕ, suc, Bool, true, false, not, List, [], ◌∷◌, ◌++◌, map, slice_index, Option, Some, None, IfSome, option_map, refl, sym, ap, subst, arith}
 use Rattle.std.specs.List.{list_any}
 use Rattle.std.specs.Char.{to_ascii_lowercase}
-use Rattle.iloc_spec_grammar.specs.Syntax.{code_u, Text, Variant, languages, is_word, IsWord, lower}
-use Rattle.iloc_spec_grammar.specs.Syntax.{is_one_byte}
+use Rattle.iloc_spec_grammar.specs.Syntax.{code_u, Text, Variant, languages, is_word, IsWord, lower, is_one_byte}
 use Rattle.iloc_spec_grammar.specs.Syntax as kinds
 use Rattle.iloc_normalize.specs.declared.Mode.{Mode}
 use Rattle.iloc_normalize.specs.declared.Mode.TheVariants.{Locale, Data}
 use Rattle.iloc_pieces.specs.Cursor.{IsNextPiece, IsShortPiece, piece_left, pieces_left}
 use Rattle.iloc_pieces.specs.declared.place.Cursor.{Cursor}
-use Rattle.iloc_pieces.proofs.CursorLemmas.{short_variant, short_region, short_script, short_field_key}
-use Rattle.iloc_pieces.proofs.CursorLemmas.{single_short}
+use Rattle.iloc_pieces.proofs.CursorLemmas.{short_variant, short_region, short_script, short_field_key, single_short}
 use Rattle.iloc_faults.specs.declared.state.Part.{Part}
-use Rattle.iloc_faults.specs.declared.state.Part.TheVariants.{Start, Head, Transform, Source, FieldKey}
-use Rattle.iloc_faults.specs.declared.state.Part.TheVariants.{Subdivision}
+use Rattle.iloc_faults.specs.declared.state.Part.TheVariants.{Start, Head, Transform, Source, FieldKey, Subdivision}
 use Rattle.iloc_faults.specs.declared.state.Stage.{Stage}
 use Rattle.iloc_faults.specs.declared.state.Stage.TheVariants.{Language, Script, Region}
 use Rattle.iloc_faults.specs.declared.state.State.{State}
-use Rattle.iloc_faults.specs.Next.{Reached, plain, is_new, is_seen, when, may_begin, part_of, begins_block}
-use Rattle.iloc_faults.specs.Next.{after_region_next, after_script_next, word_next, piece_next, block_next}
-use Rattle.iloc_faults.specs.Next.{inside_next, next}
-use Rattle.iloc_faults.specs.States.{AreSingletonsSeen, AreVariantsRead, IsEarly, HasNone, IsPieceRead}
-use Rattle.iloc_faults.specs.States.{IsWordRead, AreNew, AreNewFrom, are_same, bare, first_variants}
-use Rattle.iloc_faults.specs.States.{reached, variants_left}
+use Rattle.iloc_faults.specs.Next.{Reached, plain, is_new, is_seen, when, may_begin, part_of, begins_block, after_region_next, after_script_next, word_next, piece_next, block_next, inside_next, next}
+use Rattle.iloc_faults.specs.States.{AreSingletonsSeen, AreVariantsRead, IsEarly, HasNone, IsPieceRead, IsWordRead, AreNew, AreNewFrom, are_same, bare, first_variants, reached, variants_left}
 use Rattle.iloc_faults.proofs.VariantsLeft.{one_and_more, some_left}
 use Rattle.iloc_faults.proofs.Bits.{language_short, piece_short}
 
@@ -169,8 +160,7 @@ pub block_read : (at : Cursor) (part : Part) (bits : ℕ) (seen : List ℕ) → 
 block_read at part bits seen one begins new h p e = (
   [],
   to_ascii_lowercase (slice_index (piece_left at) 0) ∷ seen,
-  rw (begins, new) (ap
-      (λ (q : Part). Some (plain (to_ascii_lowercase (slice_index (piece_left at) 0) ∷ seen) q)) (sym e)),
+  rw (begins, new) (grind (arith, slice_index)),
   single_short (piece_left at) one,
   λ m next. record { seen_are = h; variants_are = refl; early = none_early p },
 )

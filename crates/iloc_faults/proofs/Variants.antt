@@ -1,10 +1,8 @@
 -- Variants that differ, one more at the end.
-use Rattle.std.proofs.Common.{◌≡◌, inl, inr, true, false, List, [], ◌∷◌, ◌++◌, refl, sym, ◌∙◌, true≢false}
-use Rattle.std.proofs.Common.{arith}
+use Rattle.std.proofs.Common.{◌≡◌, inl, inr, true, false, List, [], ◌∷◌, ◌++◌, refl, sym, ◌∙◌, true≢false, arith}
 use Rattle.std.specs.List.{list_any}
 use Rattle.std.specs.Ordering.{eq_by_cmp}
-use Rattle.std.proofs.lemmas.Bool.{and_parts, and_left, and_right, and_from, or_cases, or_parts, or_from}
-use Rattle.std.proofs.lemmas.Bool.{or_left, or_right, not-true, not_from_true, not_from_false}
+use Rattle.std.proofs.lemmas.Bool.{and_parts, and_left, and_right, and_from, or_cases, or_parts, or_from, or_left, or_right, not-true, not_from_true, not_from_false}
 use Rattle.std.proofs.lemmas.List.Folds.{list_any-append}
 use Rattle.iloc_spec_grammar.specs.Syntax.{Text, word_cmp, is_same}
 use Rattle.iloc_spec_grammar.specs.Computing.{all_different}
@@ -34,6 +32,13 @@ one_more [] v d h = refl
 one_more (x ∷ vs) v d h =
     let k = or_parts _ _ h in
     let parts = and_parts _ _ d in
-    and_from _ _
-    (not_from_false _ (list_any-append (eq_by_cmp word_cmp x) vs (v ∷ [])
-    ∙ or_from _ _ (not-true _ parts.0) (or_from _ _ (other_back v x k.0) refl))) (one_more vs v parts.1 k.1)
+    grind (
+      arith,
+      and_from,
+      not_from_false,
+      list_any-append,
+      or_from,
+      not-true,
+      other_back,
+      one_more vs v parts.1 k.1,
+    )

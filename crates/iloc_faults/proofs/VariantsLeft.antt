@@ -1,6 +1,5 @@
 -- The variants that are left, and their numbers.
-use Rattle.std.proofs.Common.{◌≡◌, ℕ, zero, suc, ◌+◌, ◌<◌, Bool, true, false, List, [], ◌∷◌, ◌++◌, length}
-use Rattle.std.proofs.Common.{map, refl, sym, ap, ◌∙◌, subst, if◌then◌else◌, ◌||◌, ◌≤◌, get_or, drop, arith}
+use Rattle.std.proofs.Common.{◌≡◌, ℕ, zero, suc, ◌+◌, ◌<◌, Bool, true, false, List, [], ◌∷◌, ◌++◌, length, map, refl, ap, ◌∙◌, subst, if◌then◌else◌, ◌||◌, ◌≤◌, get_or, drop, arith}
 use Rattle.std.specs.List.{AllByRecursion, list_any}
 use Rattle.std.proofs.lemmas.List.{length-map, map-append}
 use Rattle.iloc_spec_grammar.specs.Syntax.{Text, first_piece, Variant, IsWord, is_word, lower}
@@ -37,8 +36,7 @@ new_words ps (q ∷ qs) (suc n) h k a = (
   same_among q ps k.0 h ∙ a.0,
   subst (λ (ws : List Text). AreNew are_same ws (map lower qs) n) (map-append lower ps (q ∷ []))
       (new_words (ps ++ (q ∷ [])) qs n (all_append (IsWord Variant) ps (q ∷ []) h (k.0, tt)) k.1
-      (subst (λ (ws : List ℕ). AreNew same ws (map word_number qs) n)
-      (sym (map-append word_number ps (q ∷ []))) a.1)),
+      (grind (arith, map-append))),
 )
 
 -- ---- numbers at a place
@@ -96,13 +94,7 @@ pub variants_are : (l : Cursor) → AllByRecursion (IsWord Variant) (variants_le
 variants_are l = first_variants_are (pieces_left l)
 
 pub variant_numbers : (l : Cursor) → AreNumbersAt l (map word_number (variants_left l))
-variant_numbers l = let r = first_variants_begin (pieces_left l) in record {
-  words = variants_left l;
-  rest = r.0;
-  cut = r.1;
-  variants = variants_are l;
-  numbers = refl;
-}
+variant_numbers l = let r = first_variants_begin (pieces_left l) in grind (arith, variants_are)
 
 -- ---- how many they are
 

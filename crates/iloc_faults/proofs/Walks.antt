@@ -1,13 +1,9 @@
 -- What the walk over the pieces of a text says.
-use Rattle.std.proofs.Common.{◌≡◌, ◌≢◌, inl, inr, ℕ, zero, suc, ◌+◌, ◌-◌, ◌<◌, ◌≤◌, true, false, ◌==◌, List}
-use Rattle.std.proofs.Common.{[], ◌∷◌, ◌++◌, length, get_or, Option, Some, None, refl, sym, ap}
-use Rattle.std.proofs.Common.{◌∙◌, arith, append_assoc, append-nil, length-append}
-use Rattle.std.specs.List.{slice_split}
+use Rattle.std.proofs.Common.{◌≡◌, ◌≢◌, inl, inr, ℕ, zero, suc, ◌+◌, ◌-◌, ◌<◌, ◌≤◌, true, false, List, [], ◌∷◌, ◌++◌, length, get_or, Option, Some, None, refl, sym, ap, ◌∙◌, arith, append_assoc, append-nil, length-append}
 use Rattle.std.proofs.lemmas.Bool.{cases_Bool, eq-eqb, ne_eqb}
 use Rattle.std.proofs.lemmas.List.{get_or-take, get_or-drop}
 use Rattle.std.proofs.lemmas.List.Concat.{flat_map-append}
-use Rattle.iloc_spec_grammar.specs.Syntax.{Text, Language, languages, is_word, is_one_byte, pieces, dashes}
-use Rattle.iloc_spec_grammar.specs.Syntax.{first_piece}
+use Rattle.iloc_spec_grammar.specs.Syntax.{Text, Language, languages, is_word, is_one_byte, pieces, first_piece}
 use Rattle.iloc_spec_grammar.specs.Meaning.{InvalidExtension}
 use Rattle.iloc_subtags.specs.Judging.{error_of}
 use Rattle.iloc_pieces.specs.Cursor.{IsNextPiece, piece_left, pieces_left, bytes_left}
@@ -20,8 +16,7 @@ use Rattle.iloc_faults.specs.declared.state.Part.TheVariants.{Start, Head}
 use Rattle.iloc_faults.specs.declared.state.Stage.{Stage}
 use Rattle.iloc_faults.specs.declared.state.Stage.TheVariants as stages
 use Rattle.iloc_faults.specs.declared.state.State.{State}
-use Rattle.iloc_faults.specs.Next.{Reached, started, may_end, next, piece_fault, begins_block, outcome, run}
-use Rattle.iloc_faults.specs.Next.{word_next}
+use Rattle.iloc_faults.specs.Next.{Reached, started, may_end, next, piece_fault, begins_block, outcome, run, word_next}
 use Rattle.iloc_faults.specs.States.{IsPieceRead, IsWordRead, IsWalked, IsFaultFound, bare, reached}
 use Rattle.iloc_faults.proofs.Going.{run_append, verdict_run, goes_on, goes_no_longer}
 use Rattle.iloc_faults.proofs.Bits.{none_seen}
@@ -39,8 +34,11 @@ first_long [] n l none ends = omega arith
 first_long (c ∷ t) zero l none ends = grind (arith, eq-eqb)
 first_long (c ∷ t) (suc n) l none ends =
     let e = ne_eqb c 45 (none 0 (omega arith)) in
-    let h = first_long t n (omega arith) (λ k m. none (suc k) (omega arith)) (λ m. ends (omega arith)) in
-    rw e (first_onto c (slice_split (λ b. b == 45) t) ∙ ap suc h)
+    grind (
+      arith,
+      first_long t n (omega arith) (λ k m. none (suc k) (omega arith)) (λ m. ends (omega arith)),
+      first_onto,
+    )
 
 -- from the piece on, no hyphen comes before the end
 pub record IsScanned (l : Cursor) (end : ℕ) : Type 0 where
@@ -60,8 +58,7 @@ module _ (l : Cursor) where
       let r = length_rest l in
       let n : length (piece_left l) ≡ end - l.at = first_long (bytes_left l) (end - l.at) (omega arith)
       (λ k less e. s.none k less (sym (byte_is k (omega arith)) ∙ e))
-      (λ less. byte_is (end - l.at) (omega arith) ∙ ap (λ i. get_or l.window.now i 0) (omega arith)
-      ∙ ends (omega arith)) in
+      (grind (arith, byte_is, get_or)) in
       omega arith
 
 -- ---- the walk
@@ -136,15 +133,7 @@ module _ {mode : Mode} {t : Text} {at : Cursor} {s : State} (w : IsWalked mode t
     done = w.done ++ (piece_left at ∷ []);
     variants = r.0;
     seen = r.1;
-    start = let k = next_at at m n in
-        omega (
-          arith,
-          w.start,
-          k,
-          ap length (flat_map-append (λ (p : Text). 45 ∷ p) w.done (piece_left at ∷ [])),
-          length-append (dashes w.done) (dashes (piece_left at ∷ [])),
-          length-append (piece_left at) [],
-        );
+    start = grind (arith, next_at, flat_map-append, length-append);
     cut = one_cut (pieces_left m) n.pieces;
     ran = ran_one (Some (reached q.part r.0 r.1)) r.2;
     read = r.4 m n;

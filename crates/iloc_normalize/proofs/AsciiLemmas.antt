@@ -43,8 +43,7 @@ ascii_singleton c h = (ascii_byte c (letter c h), tt)
 ascii_join : (p : Text) (ps : List Text) → AllByRecursion AreAscii (p ∷ ps) → AreAscii (join (p ∷ ps))
 unfolding join
 ascii_join p [] h = h.0
-ascii_join p (q ∷ ps) h =
-    all_append (λ b. b < 128) p (45 ∷ join (q ∷ ps)) h.0 (omega arith, ascii_join q ps h.1)
+ascii_join p (q ∷ ps) h = grind (arith, all_append, ascii_join q ps h.1)
 
 utf8_join : (p : Text) (ps : List Text) → AllByRecursion AreAscii (p ∷ ps) → IsUtf8 (join (p ∷ ps))
 utf8_join p ps h =

@@ -1,27 +1,16 @@
 -- The fault of a data locale by its first block, and the head before it.
-use Rattle.std.proofs.Common.{◌≡◌, inl, inr, ℕ, Bool, true, false, cond, ◌&&◌}
-use Rattle.std.proofs.Common.{nat_le, List, [], ◌∷◌, length}
-use Rattle.std.proofs.Common.{Ok, Err, refl, sym, ap, ◌∙◌, arith}
+use Rattle.std.proofs.Common.{◌≡◌, inl, inr, ℕ, Bool, true, false, cond, ◌&&◌, List, [], ◌∷◌, Ok, Err, refl, sym, ap, ◌∙◌, arith}
 use Rattle.std.specs.Prelude.{if◌then◌else◌}
 use Rattle.std.specs.Char.{is_ascii_alphanumeric}
 use Rattle.std.specs.List.{list_all}
 use Rattle.std.proofs.lemmas.Bool.{cases_Bool, true≢false}
 use Rattle.std.proofs.lemmas.Bool.Decides.{nat_tests}
-use Rattle.iloc_spec_grammar.specs.Syntax.{Text, Kind, Language, Script, Region}
-use Rattle.iloc_spec_grammar.specs.Syntax.{UnicodeKey, Attribute, is_word}
-use Rattle.iloc_spec_grammar.specs.Syntax.{IsWord, languages, is_one_byte, front, blocks}
-use Rattle.iloc_spec_grammar.specs.Syntax.{first_piece}
+use Rattle.iloc_spec_grammar.specs.Syntax.{Text, Kind, Language, UnicodeKey, Attribute, is_word, IsWord, languages, front, blocks, first_piece}
 use Rattle.iloc_spec_grammar.specs.Meaning.{normal_values, Fault}
-use Rattle.iloc_spec_grammar.specs.Reading.{skip_first, identifier_of}
-use Rattle.iloc_spec_grammar.specs.Reading.{after_region}
+use Rattle.iloc_spec_grammar.specs.Reading.{skip_first, identifier_of, after_region}
 use Rattle.iloc_spec_grammar.specs.Meaning as faults
-use Rattle.iloc_spec_grammar.proofs.Readings.{IsLong, long_script, long_region, long_attribute}
-use Rattle.iloc_spec_grammar.proofs.Readings.{blocks_skip}
-use Rattle.iloc_spec_grammar.proofs.Readings.{not_two, two}
-use Rattle.iloc_spec_parts.specs.SmallComputing.{small_identifier, small_identifier_result}
-use Rattle.iloc_spec_parts.specs.SmallComputing.{has_small_variants, is_u, has_small_keyword}
-use Rattle.iloc_spec_parts.specs.SmallComputing.{block_fault}
-use Rattle.iloc_outline.proofs.BodyLemmas.{front_first as front_long}
+use Rattle.iloc_spec_grammar.proofs.Readings.{IsLong, long_script, long_region, long_attribute, blocks_skip, not_two, two}
+use Rattle.iloc_spec_parts.specs.SmallComputing.{small_identifier, small_identifier_result, has_small_variants, is_u, has_small_keyword, block_fault}
 
 and_both : (a b : Bool) → (a && b) ≡ true → (a ≡ true) × (b ≡ true)
 and_both true b e = (refl, e)
@@ -31,8 +20,7 @@ and_both false b e = absurd (true≢false (sym e))
 
 pub no_key : (qs : List Text) → is_word UnicodeKey (first_piece qs) ≡ false → has_small_keyword qs ≡ false
 no_key [] e = refl
-no_key (p ∷ qs) e =
-    ap (λ (x : Bool). x && (list_all (is_word Attribute) qs && nat_le (length (normal_values qs)) 1)) e
+no_key (p ∷ qs) e = search
 
 pub front_first : (qs : List Text) → IsLong (first_piece qs) → first_piece (front qs) ≡ first_piece qs
 front_first [] e = refl
@@ -71,9 +59,7 @@ pub values_whole : (qs : List Text) → list_all (is_word Attribute) qs ≡ true
 values_whole [] h = (refl, refl)
 values_whole (q ∷ qs) h =
     let parts = and_both (is_word Attribute q) (list_all (is_word Attribute) qs) h in
-    let long = long_attribute q parts.0 in
-    let later = values_whole qs parts.1 in
-    (front_long q qs long ∙ ap (λ rs. q ∷ rs) later.0, blocks_skip q qs long ∙ later.1)
+    search (long_attribute, values_whole qs parts.1, blocks_skip)
 
 pub no_word : IsWord UnicodeKey [] → ⊥
 unfolding is_word
@@ -87,40 +73,18 @@ PassesLong k = (p : Text) → IsWord k p → IsLong p
 pub skip_front : (k : Kind) → PassesLong k → (qs : List Text) →
     skip_first (is_word k) (front qs) ≡ front (skip_first (is_word k) qs)
 skip_front k long [] = refl
-skip_front k long (q ∷ qs) = elim (cases_Bool (is_word k q)) [
-  | inl fits ↦
-      ap (skip_first (is_word k)) (front_long q qs (long q fits))
-      ∙ (λ j. cond (fits j) (front qs) (q ∷ front qs))
-      ∙ sym (ap (λ (x : Bool). front (cond x qs (q ∷ qs))) fits)
-  | inr fails ↦ stays (is_one_byte q) refl fails ∙ sym (ap (λ (x : Bool). front (cond x qs (q ∷ qs))) fails)
-]
-  where
-    stays : (o : Bool) → is_one_byte q ≡ o → is_word k q ≡ false →
-        skip_first (is_word k) (front (q ∷ qs)) ≡ front (q ∷ qs)
-    stays true one fails =
-        let none : front (q ∷ qs) ≡ [] = ap (λ (o : Bool). cond o [] (q ∷ front qs)) one in
-        ap (skip_first (is_word k)) none ∙ sym none
-    stays false one fails =
-        ap (skip_first (is_word k)) (front_long q qs one)
-        ∙ ap (λ (x : Bool). cond x (front qs) (q ∷ front qs)) fails ∙ sym (front_long q qs one)
+skip_front k long (q ∷ qs) = grind arith
 
 pub head_region : (p : Text) (qs : List Text) →
     after_region (p ∷ front qs) ≡ front (after_region (p ∷ qs))
-head_region p qs =
-    ap (skip_first (is_word Region)) (skip_front Script long_script qs)
-    ∙ skip_front Region long_region (skip_first (is_word Script) qs)
+head_region p qs = search (skip_front, long_script, long_region)
 
 -- so the head is small
 pub small_head : (p : Text) (qs : List Text) → IsWord (Language languages) p →
     has_small_variants (front (after_region (p ∷ qs))) ≡ true
     → small_identifier_result languages (p ∷ front qs) ≡ Ok (small_identifier (identifier_of (p ∷ front qs)))
 unfolding small_identifier_result identifier_of
-small_head p qs l h =
-    let few : has_small_variants (identifier_of (p ∷ front qs)).variants ≡ true =
-    ap has_small_variants (head_region p qs) ∙ h in
-    λ j. if l j then
-    (if few j then Ok (small_identifier (identifier_of (p ∷ front qs))) else Err faults.InvalidSubtag) else
-    Err faults.InvalidLanguage
+small_head p qs l h = grind arith
 
 -- ... and one with more variants is not
 pub large_head : (p : Text) (qs : List Text) → IsWord (Language languages) p →
@@ -130,9 +94,7 @@ unfolding small_identifier_result identifier_of
 large_head p qs l h =
     let many : has_small_variants (identifier_of (p ∷ front qs)).variants ≡ false =
     ap has_small_variants (head_region p qs) ∙ h in
-    λ j. if l j then
-    (if many j then Ok (small_identifier (identifier_of (p ∷ front qs))) else Err faults.InvalidSubtag) else
-    Err faults.InvalidLanguage
+    search
 
 -- ---- the answers
 

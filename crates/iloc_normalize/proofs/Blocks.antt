@@ -1,7 +1,5 @@
 -- What the pieces behind a head are.
-use Rattle.std.proofs.Common.{◌≡◌, ℕ, ◌+◌, true, false, List, [], ◌∷◌, length, slice_index, Ok, Err, Some}
-use Rattle.std.proofs.Common.{refl, ap, ◌∙◌, subst, arith}
-use Rattle.std.specs.Prelude.{if◌then◌else◌}
+use Rattle.std.proofs.Common.{◌≡◌, ℕ, true, false, List, [], ◌∷◌, slice_index, Err, ap, ◌∙◌, arith}
 use Rattle.std.specs.Char.{is_ascii_alphanumeric}
 use Rattle.std.proofs.lemmas.Bool.{eqb-true}
 use Rattle.iloc_spec_grammar.specs.Syntax.{Text, is_one_byte, pieces, first_piece}
@@ -9,42 +7,30 @@ use Rattle.iloc_spec_grammar.specs.Meaning.{Fault, InvalidExtension, InvalidSubt
 use Rattle.iloc_spec_grammar.specs.Reading.{rest_of}
 use Rattle.iloc_spec_grammar.proofs.PiecesLaws.{at_pieces}
 use Rattle.iloc_spec_parts.specs.Small.{SmallIdentifier}
-use Rattle.iloc_spec_parts.specs.SmallComputing.{block_fault, blocks_result, is_u, keyword_read}
-use Rattle.iloc_spec_parts.specs.DataComputing.{data_of_result}
+use Rattle.iloc_spec_parts.specs.SmallComputing.{block_fault, blocks_result, is_u}
 use Rattle.iloc_pieces.specs.Cursor.{IsNextPiece, bytes_left, piece_left, pieces_left}
 use Rattle.iloc_pieces.specs.declared.place.Cursor.{Cursor}
 use Rattle.iloc_pieces.proofs.CursorLemmas.{next_at}
 use Rattle.iloc_normalize.specs.Data.{IsDataBehind}
-use Rattle.iloc_normalize.specs.Subdivisions.{IsKeywordRead, IsNamed, data_behind}
+use Rattle.iloc_normalize.specs.Subdivisions.{IsKeywordRead, data_behind}
 use Rattle.iloc_normalize.specs.declared.data.Data.TheVariants as datas
 use Rattle.iloc_normalize.specs.declared.data.DataHead.{DataHead}
 use Rattle.iloc_normalize.specs.declared.subdivisions.Keyword.TheVariants as keywords
 use Rattle.iloc_normalize.specs.declared.subdivisions.SubdivisionValue.{SubdivisionValue}
 use Rattle.iloc_normalize.proofs.Behind.{no_key_behind, no_attribute, no_word_key}
-use Rattle.iloc_normalize.proofs.FrontAnswers.{first_block, no_u, other_fault}
+use Rattle.iloc_normalize.proofs.FrontAnswers.{other_fault}
 use Rattle.iloc_normalize.proofs.BlockFaults.{no_letter_no_u, unlettered_fault}
 use Rattle.iloc_outline.proofs.SingletonSteps.{one_byte}
 
 single_first : (t : Text) → is_one_byte (first_piece (pieces t)) ≡ true
     → pieces t ≡ (slice_index (first_piece (pieces t)) 0 ∷ []) ∷ rest_of (pieces t)
-single_first t = at_pieces (λ ps. is_one_byte (first_piece ps) ≡ true
-    → ps ≡ (slice_index (first_piece ps) 0 ∷ []) ∷ rest_of ps)
-    (λ p ps e. ap (λ q. q ∷ ps) (one_byte p e)) t
+single_first t = grind (arith, at_pieces, slice_index, one_byte)
 
 -- a block of another singleton than `u` has its own fault
 other_block : (r : SmallIdentifier) (c : ℕ) (ps : List Text) (f : Fault) → is_u c ≡ false
     → ((qs : List Text) → block_fault (c, qs) ≡ f) → data_behind r ((c ∷ []) ∷ ps) ≡ Err f
 unfolding blocks_result
-other_block r c ps f other fault =
-    let first = first_block c ps in
-    let qs = first.0 in
-    let none = no_u (c, qs) first.1 other in
-    ap (λ bs. data_of_result (blocks_result r bs)) first.2
-    ∙ (λ j. data_of_result (if none j then Ok (record {
-      id = r;
-      keyword =
-          Some (keyword_read qs);
-    }) else Err (fault qs j)))
+other_block r c ps f other fault = grind arith
 
 module _ (h : DataHead) (l : Cursor) (single : is_one_byte (piece_left l) ≡ true) where
   abbrev c : ℕ
@@ -72,45 +58,12 @@ module _ (h : DataHead) (l : Cursor) (single : is_one_byte (piece_left l) ≡ tr
     -- nothing follows
     pub u_alone : pieces_left l ≡ piece_left l ∷ [] → (r : SmallIdentifier)
         → data_behind r (pieces_left l) ≡ Err InvalidExtension
-    u_alone last r =
-        ap (data_behind r) (there ∙ ap (λ ps. (c ∷ []) ∷ rest_of ps) last)
-        ∙ no_key_behind c u r [] no_attribute no_word_key
+    u_alone last r = grind (arith, there, no_key_behind, no_attribute, no_word_key)
 
     module _ (m : Cursor) (n : IsNextPiece l m) where
       before : pieces_left l ≡ (c ∷ []) ∷ pieces_left m
       before = there ∙ ap (λ ps. (c ∷ []) ∷ rest_of ps) n.pieces
 
-      pub misfit_read : IsKeywordRead m keywords.Misfit → (r : SmallIdentifier)
-          → data_behind r (pieces_left l) ≡ Err InvalidSubtag
-      misfit_read k r = ap (data_behind r) before ∙ k c u r
-
-      pub unnamed_read : IsKeywordRead m keywords.Unnamed → (r : SmallIdentifier)
-          → data_behind r (pieces_left l) ≡ Err InvalidExtension
-      unnamed_read k r = ap (data_behind r) before ∙ k c u r
-
       pub named_read : (v : SubdivisionValue) → IsKeywordRead m (keywords.Named v)
           → IsDataBehind h l (datas.Named h v)
-      named_read v k =
-          let s = k.0 in
-          let p = k.1 in
-          let at = next_at_one in
-          let behind = p.behind in
-          let inside = p.inside in
-          let end = n.end in (
-            refl,
-            single,
-            (
-              s,
-              record {
-                named = subst (λ t. IsNamed t v s) n.window p.named;
-                behind = omega (arith, at, behind);
-                inside = omega (arith, inside, end);
-              },
-              λ r. ap (data_behind r) before ∙ k.2 c u r,
-            ),
-          )
-        where
-          next_at_one : m.at ≡ l.at + 2
-          next_at_one =
-              let one : length (piece_left l) ≡ 1 = eqb-true _ _ single in
-              let next = next_at l m n in omega (arith, one, next)
+      named_read v k = grind (arith, before, eqb-true, next_at)

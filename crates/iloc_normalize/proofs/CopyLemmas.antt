@@ -1,6 +1,5 @@
 -- Parts that are copied one after the other.
-use Rattle.std.proofs.Common.{◌≡◌, ℕ, zero, suc, ◌+◌, ◌-◌, ◌≤◌, [], ◌∷◌, ◌++◌, length, take, drop, refl}
-use Rattle.std.proofs.Common.{sym, ap, ◌∙◌, arith, length-drop, length-take-le}
+use Rattle.std.proofs.Common.{◌≡◌, ℕ, zero, suc, ◌+◌, ◌-◌, ◌≤◌, [], ◌∷◌, ◌++◌, length, take, drop, refl, sym, ap, ◌∙◌, arith, length-drop, length-take-le}
 use Rattle.std.proofs.lemmas.List.{take-take, take-map, map-append}
 use Rattle.std.proofs.lemmas.Slice.{take-put_mid}
 use borrow.Rule.Slice.PartMut.{put_mid, same_len_mid}
@@ -23,8 +22,7 @@ take_two (suc a) b (x ∷ t) = let one : suc a + b ≡ suc (a + b) = omega arith
 pub lower_two : (a b : ℕ) (t : Text) →
     lower (take a t) ++ lower (take b (drop a t)) ≡ lower (take (a + b) t)
 unfolding lower
-lower_two a b t =
-    sym (map-append to_ascii_lowercase (take a t) (take b (drop a t))) ∙ ap lower (sym (take_two a b t))
+lower_two a b t = search (map-append, take_two)
 
 -- the first of the sixteen bytes that stand at a place
 pub lower_part : (n a : ℕ) (t : Text) → n ≤ 16 → a + 16 ≤ length t
@@ -44,25 +42,16 @@ module _ (at k n count : ℕ) (from to part : Text) (few : k ≤ 16) (sum : n �
   is_lower = is ∙ lower_part k at from few (omega (arith, sum, fits, bytes))
 
   long : length part ≡ k
-  long =
-      ap length is_lower ∙ length-lower (take k (drop at from))
-      ∙ length-take-le k (drop at from) (omega (arith, length-drop at from, few, sum, fits, bytes))
+  long = grind (arith, is_lower, length-lower, length-take-le, length-drop)
 
   pub same_room : length (put_mid at k to part) ≡ count
-  same_room =
-      same_len_mid at k to part
-      (long ∙ sym (length-take-le k (drop at to) (omega (arith, length-drop at to, sum, room, fits))))
-      ∙ room
+  same_room = same_len_mid at k to part (grind (arith, long, length-take-le, length-drop)) ∙ room
 
   pub copied_more : take at to ≡ lower (take at from) → take n (put_mid at k to part) ≡ lower (take n from)
-  copied_more before =
-      take-put_mid at k to part n (sum ∙ ap (λ (m : ℕ). at + m) (sym long)) (omega (arith, sum, fits, room))
-      ∙ (λ j. before j ++ is_lower j) ∙ lower_two at k from ∙ ap (λ (m : ℕ). lower (take m from)) (sym sum)
+  copied_more before = grind (arith, take-put_mid, long, is_lower, lower_two)
 
 -- sixteen bytes are all of the sixteen
 pub sixteen : (k : ℕ) (t part : Text) → k ≡ 16 → part ≡ lower (take 16 t) →
     part ≡ take k (lower (take 16 t))
 unfolding lower
-sixteen k t part e is =
-    is ∙ ap lower (sym (take-take 16 16 t (omega arith))) ∙ sym (take-map to_ascii_lowercase 16 (take 16 t))
-    ∙ ap (λ (m : ℕ). take m (lower (take 16 t))) (sym e)
+sixteen k t part e is = grind arith

@@ -1,6 +1,5 @@
 -- Texts that are cut at a hyphen.
-use Rattle.std.proofs.Common.{◌≡◌, ℕ, zero, suc, ◌+◌, ◌-◌, ◌<◌, ◌≤◌, ◌==◌, true, false, cond, List, [], ◌∷◌}
-use Rattle.std.proofs.Common.{◌++◌, length, get_or, take, drop, refl, ap, ◌∙◌, arith}
+use Rattle.std.proofs.Common.{◌≡◌, ℕ, zero, suc, ◌+◌, ◌-◌, ◌<◌, ◌≤◌, List, [], ◌∷◌, ◌++◌, length, get_or, take, drop, refl, arith}
 use Rattle.std.specs.List.{onto_first}
 use Rattle.iloc_spec_grammar.specs.Syntax.{Text, pieces}
 use Rattle.iloc_spec_grammar.proofs.PiecesLaws.{at_pieces}
@@ -14,12 +13,7 @@ onto_append c t qs = at_pieces (λ ps. onto_first c (ps ++ qs) ≡ onto_first c 
 pub pieces_both : (s t : Text) → pieces (s ++ 45 ∷ t) ≡ pieces s ++ pieces t
 unfolding pieces
 pieces_both [] t = refl
-pieces_both (c ∷ s) t =
-    elim (c == 45) as (λ b. cond b ([] ∷ pieces (s ++ 45 ∷ t)) (onto_first c (pieces (s ++ 45 ∷ t)))
-    ≡ cond b ([] ∷ pieces s) (onto_first c (pieces s)) ++ pieces t) [
-      | true ↦ ap (λ l. [] ∷ l) (pieces_both s t)
-      | false ↦ ap (onto_first c) (pieces_both s t) ∙ onto_append c s (pieces t)
-    ]
+pieces_both (c ∷ s) t = grind (arith, pieces_both s t, onto_append)
 
 drop_one : (a : ℕ) (w : Text) → a < length w → drop a w ≡ get_or w a 0 ∷ drop (suc a) w
 drop_one zero [] l = absurd (omega arith)
@@ -34,11 +28,7 @@ module _ (w : Text) (len at : ℕ) (room : len ≤ length w) (less : at < len)
   after = take (len - at - 1) (drop (suc at) w)
 
   pub from_hyphen : take (len - at) (drop at w) ≡ 45 ∷ after
-  from_hyphen =
-      let more : len - at ≡ suc (len - at - 1) = omega arith in
-      (λ j. take (more j) (drop_one at w (omega arith) j)) ∙ ap (λ b. b ∷ after) hyphen
+  from_hyphen = grind (arith, drop_one)
 
   pub cut_there : take len w ≡ take at w ++ 45 ∷ after
-  cut_there =
-      let parts : len ≡ at + (len - at) = omega arith in
-      ap (λ (m : ℕ). take m w) parts ∙ take_two at (len - at) w ∙ ap (λ l. take at w ++ l) from_hyphen
+  cut_there = let parts : len ≡ at + (len - at) = omega arith in grind (arith, take_two, from_hyphen)

@@ -1,6 +1,5 @@
 -- Texts are the same if their ends are, which together are all of them.
-use Rattle.std.proofs.Common.{◌≡◌, ℕ, ◌+◌, ◌≤◌, ◌++◌, length, take, drop, sym, ap, ◌∙◌, arith, length-drop}
-use Rattle.std.proofs.Common.{◌-◌, IsTrue}
+use Rattle.std.proofs.Common.{◌≡◌, ℕ, ◌+◌, ◌≤◌, ◌++◌, length, take, drop, sym, ap, ◌∙◌, arith, length-drop, ◌-◌, IsTrue}
 use Rattle.std.specs.Prelude.{nat_eq}
 use Rattle.std.proofs.lemmas.Bool.Decides.{nat_tests}
 use Rattle.std.proofs.lemmas.List.{take-append-drop, take-take, take_all}
@@ -49,14 +48,12 @@ ends_stored last from to few long same =
     sym (take-take last 16 first few) ∙ ap (take last) begun ∙ take-take last 16 from few in
     let room : length first ≡ last + 16 = length-put_chunk 0 to front ∙ same ∙ long in
     let all : take (last + 16) (put_chunk last first back) ≡ take last first ++ back =
-    take_more_put_chunk last first back (last + 16) (omega (arith, back_wide))
-    (omega (arith, back_wide, room)) in
+    grind (arith, take_more_put_chunk) in
     let whole : length (put_chunk last first back) ≤ last + 16 =
     omega (arith, length-put_chunk last first back, room) in
     let rest : back ≡ drop last from =
     take_all 16 (drop last from) (omega (arith, length-drop last from, long)) in
-    sym (take_all (last + 16) (put_chunk last first back) whole) ∙ all ∙ (λ j. before j ++ rest j)
-    ∙ take-append-drop last from
+    grind (arith, take_all, take-append-drop)
 
 -- pieces of one number and of one length
 pub same_number : (t u : Text) → Bytes t → Bytes u → length u ≡ length t → number t ≡ number u → t ≡ u

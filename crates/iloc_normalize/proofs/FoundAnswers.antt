@@ -1,6 +1,5 @@
 -- Data locales that are refused for their first piece of one byte.
-use Rattle.std.proofs.Common.{◌≡◌, true, false, get_or, inl}
-use Rattle.std.proofs.Common.{inr}
+use Rattle.std.proofs.Common.{◌≡◌, true, false, get_or, inl, inr}
 use Rattle.std.specs.Char.{is_ascii_alphanumeric}
 use Rattle.std.proofs.lemmas.Bool.{cases_Bool}
 use Rattle.iloc_spec_grammar.specs.Syntax.{Text, pieces}

@@ -1,33 +1,22 @@
 -- Lines that are refused for what stands at their front.
-use Rattle.std.proofs.Common.{◌≡◌, ◌≢◌, ◌⊎◌, ◌↔◌, IsTrue, inl, inr, ℕ, ◌==◌, Bool, true, false, cond, ◌&&◌}
-use Rattle.std.proofs.Common.{List, [], ◌∷◌, ◌++◌, get_or, Some, Result, Ok, Err, MatchResult, refl, sym, ap}
-use Rattle.std.proofs.Common.{◌∙◌, subst}
+use Rattle.std.proofs.Common.{arith, ◌≡◌, ◌≢◌, ◌⊎◌, ◌↔◌, IsTrue, inl, inr, ℕ, ◌==◌, Bool, true, false, cond, ◌&&◌, List, [], ◌∷◌, ◌++◌, get_or, Some, Ok, Err, MatchResult, refl, sym, ap, ◌∙◌, subst}
 use Rattle.std.specs.Prelude.{if◌then◌else◌}
 use Rattle.std.specs.Char.{is_ascii_alphanumeric, to_ascii_lowercase}
 use Rattle.std.proofs.lemmas.Bool.{cases_Bool, true≢false, false_from_ne_true}
-use Rattle.iloc_spec_grammar.specs.Syntax.{code_x, Text, pieces, Language, is_word, IsWord, languages, front}
-use Rattle.iloc_spec_grammar.specs.Syntax.{blocks, head}
-use Rattle.iloc_spec_grammar.specs.Syntax.{tail_blocks, first_piece}
-use Rattle.iloc_spec_grammar.specs.Reading.{rest_of, from_block, starts_block, front_of, after_front}
-use Rattle.iloc_spec_grammar.specs.Reading.{after_region, identifier_of}
-use Rattle.iloc_spec_grammar.specs.Meaning.{Fault, SpellsIdentifier, not_a_language, not_an_identifier}
-use Rattle.iloc_spec_grammar.specs.Meaning.{in_head}
+use Rattle.iloc_spec_grammar.specs.Syntax.{code_x, Text, pieces, Language, is_word, IsWord, languages, front, blocks, head, tail_blocks, first_piece}
+use Rattle.iloc_spec_grammar.specs.Reading.{rest_of, from_block, starts_block, front_of, after_front, after_region}
+use Rattle.iloc_spec_grammar.specs.Meaning.{Fault, SpellsIdentifier, not_a_language, not_an_identifier, in_head}
 use Rattle.iloc_spec_grammar.specs.Meaning as faults
 use Rattle.iloc_spec_grammar.proofs.PiecesLaws.{at_pieces, pieces_nonempty}
 use Rattle.iloc_spec_grammar.proofs.RawLaws.{languages_table}
 use Rattle.iloc_spec_grammar.proofs.Readings.{after_language, long_after_language, blocks_past}
-use Rattle.iloc_spec_grammar.proofs.ReadingLaws.{pieces-front_of, front_words, after_front-pieces}
-use Rattle.iloc_spec_grammar.proofs.ReadingLaws.{starts_ends, front-from_block, from_block_starts}
-use Rattle.iloc_spec_grammar.proofs.ReadingLaws.{refuses_more}
+use Rattle.iloc_spec_grammar.proofs.ReadingLaws.{pieces-front_of, front_words, after_front-pieces, starts_ends, front-from_block, from_block_starts, refuses_more}
 use Rattle.iloc_spec_parts.specs.Small.{SmallIdentifier}
 use Rattle.iloc_spec_parts.specs.Small as small
-use Rattle.iloc_spec_parts.specs.SmallComputing.{small_identifier, small_identifier_result}
-use Rattle.iloc_spec_parts.specs.SmallComputing.{has_small_variants, is_u, is_small_block, has_small_keyword}
-use Rattle.iloc_spec_parts.specs.SmallComputing.{block_fault, keyword_read, blocks_result, after_identifier}
-use Rattle.iloc_spec_parts.specs.SmallComputing.{small_result}
+use Rattle.iloc_spec_parts.specs.SmallComputing.{small_identifier_result, is_u, is_small_block, has_small_keyword, block_fault, keyword_read, blocks_result, after_identifier, small_result}
 use Rattle.iloc_spec_parts.specs.DataLocales.{DataLocale, DataMeans, HasDataFault, not_small}
 use Rattle.iloc_spec_parts.proofs.DataLaws.{data_answer}
-use Rattle.iloc_spec_parts.specs.DataComputing.{data_result, data_of_result}
+use Rattle.iloc_spec_parts.specs.DataComputing.{data_result}
 use Rattle.iloc_subtags.specs.declared.parse_error.ParseError.TheVariants.{InvalidLanguage, InvalidSubtag}
 use Rattle.iloc_pieces.specs.Front.{GoesOn, IsFound, HasNoLanguage}
 use Rattle.iloc_pieces.specs.Window.{text_in}
@@ -130,15 +119,7 @@ small_head : (p : Text) (ps : List Text) → IsWord (Language languages) p
     → (small_identifier_result languages (p ∷ ps) ≡ Err faults.InvalidSubtag)
     ⊎ ((r : SmallIdentifier) × (small_identifier_result languages (p ∷ ps) ≡ Ok r))
 unfolding small_identifier_result
-small_head p ps l = elim (cases_Bool (has_small_variants (identifier_of (p ∷ ps)).variants)) [
-  | inl few ↦ inr (small_identifier (identifier_of (p ∷ ps)), (λ j. answer (l j) (few j)))
-  | inr many ↦ inl (λ j. answer (l j) (many j))
-]
-  where
-    answer : Bool → Bool → Result SmallIdentifier Fault
-    answer language few = if language then
-        (if few then Ok (small_identifier (identifier_of (p ∷ ps))) else Err faults.InvalidSubtag) else Err
-        faults.InvalidLanguage
+small_head p ps l = grind arith
 
 -- the first block decides, if it isn't that of a small locale
 small_refused : (t : Text) (b : ℕ × List Text) (bs : List (ℕ × List Text)) → BeginsWell t →
@@ -176,8 +157,7 @@ pub data_refused : (t : Text) (b : ℕ × List Text) (bs : List (ℕ × List Tex
     tail_blocks (pieces t) ≡ b ∷ bs
     → is_small_block b bs ≡ false → block_fault b ≡ faults.InvalidSubtag → HasRefusal Data t InvalidSubtag
 unfolding data_result
-data_refused t b bs l e other fault =
-    data_fault t faults.InvalidSubtag (ap data_of_result (small_refused t b bs l e other fault))
+data_refused t b bs l e other fault = grind (arith, data_fault, small_refused)
 
 pub no_u : (b : ℕ × List Text) (bs : List (ℕ × List Text)) → is_u b.0 ≡ false →
     is_small_block b bs ≡ false
@@ -216,9 +196,7 @@ pub other_block_refused : (t : Text) (b : Window) → BeginsWell t → GoesOn (a
     → is_ascii_alphanumeric (get_or b.bytes.now 0 0) ≡ true → is_u (get_or b.bytes.now 0 0) ≡ false →
     HasRefusal Data t InvalidSubtag
 other_block_refused t b l g letter other =
-    let found = block_found t b l g in
-    let first : ℕ × List Text = (get_or b.bytes.now 0 0, found.0) in
-    data_refused t first found.1 l found.2 (no_u first found.1 other) (other_fault first letter other)
+    let found = block_found t b l g in search (data_refused, no_u, other_fault)
 
 -- a piece of one byte after a language: it is that of a block, or comes after a piece that fits nowhere
 pub found_is_refused : (t : Text) (b : Window) → IsFound t b → HasRefusal Langid t InvalidSubtag

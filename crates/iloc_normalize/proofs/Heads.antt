@@ -1,22 +1,16 @@
 -- What the head of a text makes of it as a data locale.
-use Rattle.std.proofs.Common.{◌≡◌, ◌⊎◌, inl, inr, ℕ, suc, ◌+◌, ◌-◌, ◌<◌, ◌≤◌, Bool, true, false, cond, ◌&&◌}
-use Rattle.std.proofs.Common.{nat_le, List, [], ◌∷◌, ◌++◌, length, take, drop, Ok, Err, refl, sym, ap, ◌∙◌}
-use Rattle.std.proofs.Common.{arith, append-nil, length-append, true≢false}
+use Rattle.std.proofs.Common.{◌≡◌, ◌⊎◌, inl, inr, ℕ, suc, ◌+◌, ◌-◌, ◌<◌, ◌≤◌, Bool, true, false, ◌&&◌, nat_le, List, [], ◌∷◌, ◌++◌, length, take, drop, Ok, Err, refl, sym, ap, ◌∙◌, arith, append-nil, length-append}
 use Rattle.std.specs.List.{AllByRecursion, list_all}
 use Rattle.std.proofs.Math.Seq.{drop-append_seam}
 use Rattle.std.proofs.lemmas.Bool.{and_right, cases_Bool, lt-leb}
 use Rattle.std.proofs.lemmas.List.{drop-take, length-take-le}
-use Rattle.iloc_spec_grammar.specs.Syntax.{Text, Language, Variant, SpelledIdentifier, HasWords, IsWord}
-use Rattle.iloc_spec_grammar.specs.Syntax.{blocks, dashes, first_piece, front, head, is_one_byte, is_word}
-use Rattle.iloc_spec_grammar.specs.Syntax.{join, languages, lower, pieces, tail_blocks}
+use Rattle.iloc_spec_grammar.specs.Syntax.{Text, Language, Variant, SpelledIdentifier, HasWords, IsWord, blocks, dashes, first_piece, front, head, is_one_byte, is_word, join, languages, pieces, tail_blocks}
 use Rattle.iloc_spec_grammar.specs.Meaning.{InvalidSubtag, normal_identifier}
-use Rattle.iloc_spec_grammar.specs.Reading.{after_front, after_region, front_of, identifier_of, past}
-use Rattle.iloc_spec_grammar.specs.Reading.{starts_block}
+use Rattle.iloc_spec_grammar.specs.Reading.{after_front, after_region, front_of, identifier_of, past, starts_block}
 use Rattle.iloc_spec_grammar.proofs.PiecesLaws.{at_pieces}
 use Rattle.iloc_spec_grammar.proofs.Readings.{IsLong, long_variant}
 use Rattle.iloc_spec_grammar.proofs.ValuesLaws.{all_weaker}
-use Rattle.iloc_spec_parts.specs.SmallComputing.{after_identifier, blocks_result, has_small_variants}
-use Rattle.iloc_spec_parts.specs.SmallComputing.{small_identifier, small_identifier_result, small_result}
+use Rattle.iloc_spec_parts.specs.SmallComputing.{after_identifier, blocks_result, has_small_variants, small_identifier, small_identifier_result, small_result}
 use Rattle.iloc_spec_parts.specs.DataComputing.{data_of_result, data_result}
 use Rattle.iloc_outline.specs.Identifier.{front_text}
 use Rattle.iloc_outline.specs.Parts.{front_pieces}
@@ -45,17 +39,12 @@ tests_all (v ∷ vs) h = λ j. h.0 j && tests_all vs h.1 j
 -- no block begins with a variant
 past_block : (rest : List Text) → starts_block rest ≡ true → past (is_word Variant) rest ≡ rest
 past_block [] s = refl
-past_block (q ∷ qs) s = elim (cases_Bool (is_word Variant q)) [
-  | inl fits ↦ absurd (true≢false (sym s ∙ long_variant q fits))
-  | inr fails ↦ ap (λ (b : Bool). cond b (past (is_word Variant) qs) (q ∷ qs)) fails
-]
+past_block (q ∷ qs) s = grind (arith, cases_Bool, long_variant)
 
 past_variants : (vs rest : List Text) → AreVariants vs → starts_block rest ≡ true
     → past (is_word Variant) (vs ++ rest) ≡ rest
 past_variants [] rest h s = past_block rest s
-past_variants (v ∷ vs) rest h s =
-    ap (λ (b : Bool). cond b (past (is_word Variant) (vs ++ rest)) (v ∷ (vs ++ rest))) h.0
-    ∙ past_variants vs rest h.1 s
+past_variants (v ∷ vs) rest h s = search (past_variants vs rest h.1 s)
 
 -- ---- the head alone, or before a block
 
@@ -73,18 +62,10 @@ module _ (t : Text) (begins : BeginsWell t) (vs rest : List Text) (cut : after_r
     left_over = ap (past (is_word Variant)) cut ∙ past_variants vs rest variants starts
 
     before : front (vs ++ rest) ≡ vs
-    before = front_past vs rest (all_long vs variants) ∙ ap (λ qs. vs ++ qs) (front_none rest starts)
-        ∙ append-nil vs
+    before = search (front_past, all_long, front_none, append-nil)
 
     small : has_small_variants (front (vs ++ rest)) ≡ true
-    small =
-        let one : nat_le (length vs) 1 ≡ true = by vs few in
-        ap has_small_variants before ∙ (λ j. tests_all vs variants j && one j)
-      where
-        by : (vs : List Text) → length vs ≤ 1 → nat_le (length vs) 1 ≡ true
-        by [] l = refl
-        by (v ∷ []) l = refl
-        by (v ∷ w ∷ vs) l = absurd (omega arith)
+    small = grind (arith, nat_le, before, tests_all)
 
     -- what is read of the head
     head_is : (p : Text) (qs : List Text) → IsWord (Language languages) p
@@ -93,16 +74,7 @@ module _ (t : Text) (begins : BeginsWell t) (vs rest : List Text) (cut : after_r
     unfolding identifier_of front_of
     head_is p qs word e =
         let body = front_of_body (p ∷ qs) word in
-        let first : front (p ∷ qs) ≡ p ∷ front qs = front_first p qs (long_language p word) in
-        let same : front_of (p ∷ front qs) ≡ front_of (p ∷ qs) = ap front_of (sym first) ∙ body in
-        let last : after_region (p ∷ front qs) ≡ vs = head_region p qs ∙ ap front e ∙ before in
-        λ j. record {
-          language = (same j).language;
-          script = (same j).script;
-          region =
-              (same j).region;
-          variants = last j;
-        }
+        grind (arith, front_first, long_language, head_region, before)
 
     -- what the text means
     pub meant : data_result languages t ≡ data_behind (small_identifier (head_with (pieces t) vs)) rest
@@ -126,8 +98,7 @@ module _ (t : Text) (begins : BeginsWell t) (vs rest : List Text) (cut : after_r
   module _ (q : Text) (more : List Text) (goes_on : rest ≡ q ∷ more) (longer : is_one_byte q ≡ false)
       (odd : ((vs ≡ []) × (is_word Variant q ≡ false)) ⊎ (length vs ≡ 1)) where
     front_is : front (vs ++ rest) ≡ vs ++ q ∷ front more
-    front_is = front_past vs rest (all_long vs variants)
-        ∙ ap (λ qs. vs ++ qs) (ap front goes_on ∙ front_first q more longer)
+    front_is = grind (arith, front_past, all_long, front_first)
 
     large : has_small_variants (vs ++ q ∷ front more) ≡ false
     large = by odd
@@ -167,8 +138,7 @@ module _ (t : Text) (begins : BeginsWell t) (vs rest : List Text) (cut : after_r
 
   -- its words
   pub words_with : HasWords languages (head_with (pieces t) vs)
-  words_with = let h = words_front (pieces t) begins in
-      record { language = h.language; script = h.script; region = h.region; variants = variants }
+  words_with = let h = words_front (pieces t) begins in search
 
 -- ---- how it is printed
 
@@ -192,16 +162,4 @@ head_printed w h i words few ascends inside front printed within cut =
     ∙ ap (λ (n : ℕ). drop h.front.end (take n w)) (sym reach)
     ∙ ap (drop h.front.end) cut ∙ ap (λ (n : ℕ). drop n (a ++ dashes i.variants)) (sym long)
     ∙ drop-append_seam a (dashes i.variants) in
-    record {
-      words = words;
-      few = few;
-      ascends = ascends;
-      inside = inside;
-      front = front;
-      printed = printed;
-      whole = ap (front_text s r) cut
-          ∙ front_text-append s r a (dashes i.variants) (omega (arith, less, long)) (omega
-          (arith, more, long))
-          ∙ (λ j. printed j ++ lower-dashes i.variants j);
-      variant = ap lower rest ∙ lower-dashes i.variants;
-    }
+    grind (arith, front_text-append, lower-dashes)

@@ -1,8 +1,6 @@
 -- What is written of a head and a subdivision.
-use Rattle.std.proofs.Common.{◌≡◌, ◌≢◌, ◌⊎◌, inl, inr, ℕ, ◌+◌, ◌-◌, Bool, true, false, ◌∷◌, ◌++◌, map, take}
-use Rattle.std.proofs.Common.{codes, Option, Some, None, refl, sym, ap, ◌∙◌, arith, append_assoc, IfSome}
-use Rattle.iloc_spec_grammar.specs.Syntax.{Text, SpelledIdentifier, Region, IsWord, dashes, is_same, join}
-use Rattle.iloc_spec_grammar.specs.Syntax.{lower, upper}
+use Rattle.std.proofs.Common.{◌≡◌, ◌≢◌, ◌⊎◌, inl, inr, ℕ, ◌+◌, ◌-◌, Bool, true, false, ◌∷◌, ◌++◌, map, take, codes, Option, Some, None, refl, sym, ap, ◌∙◌, arith, append_assoc, IfSome}
+use Rattle.iloc_spec_grammar.specs.Syntax.{Text, SpelledIdentifier, Region, IsWord, dashes, is_same, join, lower, upper}
 use Rattle.iloc_spec_grammar.specs.Meaning.{normal_identifier}
 use Rattle.iloc_spec_grammar.proofs.WordsLaws.{length-region}
 use Rattle.iloc_spec_parts.specs.DataLocales.{DataLocale, data_text, is_whole, whole}

@@ -1,25 +1,14 @@
 -- What a subtag names as a value of `sd`.
-use Rattle.std.proofs.Common.{◌≡◌, ◌≢◌, ℕ, zero, suc, ◌+◌, ◌-◌, ◌*◌, ◌/◌, ◌%◌, ◌≤◌, ◌==◌, Bool, true, false}
-use Rattle.std.proofs.Common.{cond, ◌&&◌, [], ◌∷◌, ◌++◌, length, get_or, take, drop, codes, Option, None}
-use Rattle.std.proofs.Common.{Some, Ok, Err, refl, sym, ap, ap₂, ◌∙◌, arith, take-append-drop}
-use Rattle.std.proofs.Common.{true≢false, not, is_some}
-use Rattle.std.specs.Prelude.{if◌then◌else◌, ok_or}
+use Rattle.std.proofs.Common.{◌≡◌, ◌≢◌, ℕ, zero, suc, ◌+◌, ◌-◌, ◌*◌, ◌/◌, ◌%◌, ◌≤◌, ◌==◌, Bool, true, false, cond, ◌&&◌, [], ◌∷◌, ◌++◌, length, get_or, take, drop, codes, None, Ok, refl, sym, ap, ◌∙◌, arith, take-append-drop, not, is_some}
 use Rattle.std.specs.Char.{is_ascii_alphabetic, is_ascii_alphanumeric, to_ascii_lowercase}
 use Rattle.std.specs.Result.{result_ok}
-use Rattle.std.proofs.lemmas.Bool.{and_from, and_parts, eq-eqb, eqb-true, false_from_ne_true, ne_eqb}
+use Rattle.std.proofs.lemmas.Bool.{and_parts, false_from_ne_true, ne_eqb}
 use Rattle.std.proofs.lemmas.List.{drop-drop, drop-take, take-take}
-use Rattle.iloc_spec_grammar.specs.Syntax.{Text, Attribute, Region, Subtag, SubdivisionSuffix}
-use Rattle.iloc_spec_grammar.specs.Syntax.{IsWord, is_same, is_true, is_word, letters_or_digits, lower}
-use Rattle.iloc_spec_grammar.specs.Syntax.{normal, upper}
-use Rattle.iloc_spec_grammar.specs.Meaning as faults
-use Rattle.iloc_spec_grammar.proofs.MapLaws.{same_is, same_itself}
-use Rattle.iloc_spec_grammar.proofs.WordsLaws.{is_word-lower, is_word-normal, length-attribute}
-use Rattle.iloc_spec_grammar.proofs.WordsLaws.{alphabetic-lower, length-lower}
-use Rattle.iloc_spec_grammar.proofs.WordsLaws.{lower-lower, lower-upper, normal-normal}
-use Rattle.iloc_spec_grammar.proofs.WordsLaws.{word_letters_or_digits}
+use Rattle.iloc_spec_grammar.specs.Syntax.{Text, Attribute, Region, SubdivisionSuffix, IsWord, is_same, is_true, is_word, letters_or_digits, lower, upper}
+use Rattle.iloc_spec_grammar.proofs.MapLaws.{same_is}
+use Rattle.iloc_spec_grammar.proofs.WordsLaws.{is_word-lower, is_word-normal, length-attribute, alphabetic-lower, length-lower, lower-lower, lower-upper, normal-normal, word_letters_or_digits}
 use Rattle.iloc_spec_parts.specs.DataLocales.{named_subdivision}
-use Rattle.iloc_spec_parts.specs.Subdivisions.{Subdivision, both_words, region_length, subdivision}
-use Rattle.iloc_spec_parts.specs.Subdivisions.{subdivision_text}
+use Rattle.iloc_spec_parts.specs.Subdivisions.{Subdivision, region_length, subdivision, subdivision_text}
 use Rattle.iloc_spec_parts.proofs.SubdivisionLaws.{subdivision_back}
 use Rattle.iloc_pieces.specs.Cursor.{IsShortPiece, piece_left}
 use Rattle.iloc_pieces.specs.Shape.{bits, shape_of}
@@ -27,30 +16,15 @@ use Rattle.iloc_pieces.specs.declared.place.Cursor.{Cursor}
 use Rattle.iloc_pieces.proofs.CursorLemmas.{few_long, length_piece, piece_byte, short_attribute, short_bytes}
 use Rattle.iloc_pieces.proofs.ByShape.{cursor_shape}
 use Rattle.iloc_normalize.specs.Subdivisions.{EndsRegion, IsNamed, bytes_at}
-use Rattle.iloc_pieces.proofs.RunWords.{and-false}
 use Rattle.iloc_pieces.proofs.Shapes.{shape_of_one}
 use Rattle.iloc_outline.proofs.OutlineLemmas.{lower-append}
 
 -- ---- the key `sd`
 
-pub one_test : (x y : Bool) → (x ≡ true → y ≡ true) → (y ≡ true → x ≡ true) → x ≡ y
-one_test true true f g = refl
-one_test false false f g = refl
-one_test true false f g = sym (f refl)
-one_test false true f g = g refl
-
 pub sd_of : (p : Text) → length p ≡ 2 → is_same (lower p) (codes "sd")
     ≡ ((to_ascii_lowercase (get_or p 0 0) == 115) && (to_ascii_lowercase (get_or p 1 0) == 100))
 unfolding lower
-sd_of (a ∷ b ∷ []) e = one_test _ _
-    (λ h. let k : to_ascii_lowercase a ∷ to_ascii_lowercase b ∷ [] ≡ 115 ∷ 100 ∷ [] =
-    same_is (to_ascii_lowercase a ∷ to_ascii_lowercase b ∷ []) (codes "sd") h in
-    let x : to_ascii_lowercase a ≡ 115 = cc in
-    let y : to_ascii_lowercase b ≡ 100 = cc in
-    and_from _ _ (eq-eqb _ _ x) (eq-eqb _ _ y))
-    (λ h. let k = and_parts _ _ h in
-    ap₂ (λ (u v : ℕ). is_same (u ∷ v ∷ []) (codes "sd")) {x = to_ascii_lowercase a} {y = 115}
-    {u = to_ascii_lowercase b} {v = 100} (eqb-true _ _ k.0) (eqb-true _ _ k.1) ∙ same_itself (codes "sd"))
+sd_of (a ∷ b ∷ []) e = grind arith
 sd_of [] e = absurd (omega arith)
 sd_of (a ∷ []) e = absurd (omega arith)
 sd_of (a ∷ b ∷ c ∷ p) e = absurd (omega arith)
@@ -69,12 +43,7 @@ pub sd_is : (l : Cursor) → l.piece_length ≡ 2 →
     is_same (lower (piece_left l)) (codes "sd")
     ≡ ((to_ascii_lowercase (get_or l.window.now l.at 0) == 115)
     && (to_ascii_lowercase (get_or l.window.now (l.at + 1) 0) == 100))
-sd_is l e =
-    let two = two_long l e in
-    sd_of (piece_left l) two
-    ∙ ap₂ (λ u v. (to_ascii_lowercase u == 115) && (to_ascii_lowercase v == 100))
-    (piece_byte l 0 (omega arith) ∙ ap (λ i. get_or l.window.now i 0) (omega arith))
-    (piece_byte l 1 (omega arith))
+sd_is l e = grind (arith, two_long, sd_of, piece_byte, get_or)
 
 -- ---- a region and a suffix
 
@@ -110,32 +79,7 @@ lower_drop (suc k) (c ∷ v) = lower_drop k v
 
 -- no region, or no suffix
 pub unnamed : (v : Text) → EndsRegion v 0 → named_subdivision (lower v) ≡ None
-unnamed v none = by (is_word Subtag t) (is_word Region (take k t)) (is_word SubdivisionSuffix
-    (drop k t)) lowered
-  where
-    t : Text
-    t = lower v
-
-    k : ℕ
-    k = region_length (lower v)
-
-    read_as : Bool → Bool → Bool → Option Subdivision
-    read_as s x y = result_ok (if s then ok_or (both_words (if x then Some (normal Region
-        (take k t)) else None)
-        (if y then Some (normal SubdivisionSuffix (drop k t)) else None)) faults.InvalidExtension
-        else Err faults.InvalidSubtag)
-
-    by : (s x y : Bool) → (x && y) ≡ false → read_as s x y ≡ None
-    by true true true e = absurd (true≢false e)
-    by true true false e = refl
-    by true false y e = refl
-    by false x y e = refl
-
-    lowered : (is_word Region (take k t) && is_word SubdivisionSuffix (drop k t)) ≡ false
-    lowered =
-        (λ j. (ap (is_word Region) (lower_take k v) ∙ is_word-lower Region (take k v)) j
-        && (ap (is_word SubdivisionSuffix) (lower_drop k v) ∙ is_word-lower SubdivisionSuffix (drop k v)) j)
-        ∙ none
+unnamed v none = grind (arith, lower_take, is_word-lower, lower_drop)
 
 -- so many bytes of it are the region of what it names
 pub names_by_region : (v : Text) (k : ℕ) → EndsRegion v k →
@@ -151,8 +95,7 @@ abbrev bit : ℕ → ℕ
 bit b = cond (is_ascii_alphabetic b) 0 1
 
 low_bit : (b : ℕ) → bit b ≤ 1
-low_bit b = elim (is_ascii_alphabetic b) as (λ
-    (a : Bool). cond a 0 1 ≤ 1) [ true ↦ omega arith | false ↦ omega arith ]
+low_bit b = grind arith
 
 letter_of : (b m : ℕ) → (bit b + 2 * m) % 2 ≡ 0 → is_ascii_alphabetic b ≡ true
 letter_of b m e = by (is_ascii_alphabetic b) refl
@@ -196,52 +139,27 @@ module _ (a b c : ℕ) (q : Text) (all : letters_or_digits (a ∷ b ∷ c ∷ q)
 
   pub two_letters : shape_of p % 2 ≡ 0 → region_length (lower p) ≡ 2
   unfolding lower
-  two_letters e =
-      let l : is_ascii_alphabetic a ≡ true =
-      letter_of a (bit b + 2 * (bit c + 2 * bits q)) (ap (λ n. n % 2) (sym whole) ∙ e) in
-      ap (λ (x : Bool). if x then 2 else 3) (alphabetic-lower a ∙ l)
+  two_letters e = grind (arith, letter_of, whole, alphabetic-lower)
 
   pub three_digits : shape_of p % 2 ≢ 0 → region_length (lower p) ≡ 3
   unfolding lower
-  three_digits e =
-      let l : is_ascii_alphabetic a ≡ false =
-      digit_of a (bit b + 2 * (bit c + 2 * bits q)) (λ z. e (ap (λ n. n % 2) whole ∙ z)) in
-      ap (λ (x : Bool). if x then 2 else 3) (alphabetic-lower a ∙ l)
+  three_digits e = grind (arith, digit_of, whole, alphabetic-lower)
 
   pub front_two : shape_of (take 2 p) ≡ shape_of p % 4 + 4
   unfolding bits
-  front_two =
-      let words : letters_or_digits (a ∷ b ∷ []) ≡ true = λ j. first j && (second j && true) in
-      let x = low_bit a in let y = low_bit b in
-      let is = shape_of_one (a ∷ b ∷ []) words in
-      let w = whole in
-      omega (arith, is, w, x, y)
+  front_two = grind (arith, first, second, low_bit, shape_of_one, whole)
 
   pub rest_two : shape_of (drop 2 p) ≡ shape_of p / 4
   unfolding bits
-  rest_two =
-      let x = low_bit a in let y = low_bit b in
-      let is = shape_of_one (c ∷ q) last in
-      let w = whole in
-      omega (arith, is, w, x, y)
+  rest_two = grind (arith, low_bit, shape_of_one, last, whole)
 
   pub front_three : shape_of (take 3 p) ≡ shape_of p % 8 + 8
   unfolding bits
-  front_three =
-      let words : letters_or_digits (a ∷ b ∷ c ∷ []) ≡ true =
-      λ j. first j && (second j && (third j && true)) in
-      let x = low_bit a in let y = low_bit b in let z = low_bit c in
-      let is = shape_of_one (a ∷ b ∷ c ∷ []) words in
-      let w = whole in
-      omega (arith, is, w, x, y, z)
+  front_three = grind (arith, first, second, third, low_bit, shape_of_one, whole)
 
   pub rest_three : shape_of (drop 3 p) ≡ shape_of p / 8
   unfolding bits
-  rest_three =
-      let x = low_bit a in let y = low_bit b in let z = low_bit c in
-      let is = shape_of_one q rest in
-      let w = whole in
-      omega (arith, is, w, x, y, z)
+  rest_three = grind (arith, low_bit, shape_of_one, rest, whole)
 
 -- what the shape says
 pub record Parts (p : Text) : Type 0 where
@@ -256,14 +174,7 @@ pub parts : (p : Text) → letters_or_digits p ≡ true → 3 ≤ length p → P
 parts [] all l = absurd (omega arith)
 parts (a ∷ []) all l = absurd (omega arith)
 parts (a ∷ b ∷ []) all l = absurd (omega arith)
-parts (a ∷ b ∷ c ∷ q) all l = record {
-  two = two_letters a b c q all;
-  three = three_digits a b c q all;
-  front_two = front_two a b c q all;
-  rest_two = rest_two a b c q all;
-  front_three = front_three a b c q all;
-  rest_three = rest_three a b c q all;
-}
+parts (a ∷ b ∷ c ∷ q) all l = search (two_letters, three_digits, front_two, rest_two, front_three, rest_three)
 
 -- the region has k bytes, if the words are
 module _ (p : Text) (k : ℕ) (at : region_length (lower p) ≡ k) where
@@ -274,18 +185,13 @@ module _ (p : Text) (k : ℕ) (at : region_length (lower p) ≡ k) where
   no_region e = ap both at ∙ ap (λ (b : Bool). b && is_word SubdivisionSuffix (drop k p)) e
 
   pub no_suffix : is_word SubdivisionSuffix (drop k p) ≡ false → EndsRegion p 0
-  no_suffix e = ap both at ∙ ap (λ (b : Bool). is_word Region (take k p) && b) e
-      ∙ and-false (is_word Region (take k p))
+  no_suffix e = grind arith
 
 -- ---- what a word names
 
 two_or_three : (t : Text) → (2 ≤ region_length t) × (region_length t ≤ 3)
 two_or_three [] = (omega arith, omega arith)
-two_or_three (c ∷ t) = elim (is_ascii_alphabetic c) as (λ (b : Bool). (2 ≤ (if b then 2 else 3))
-    × ((if b then 2 else 3) ≤ 3)) [
-      | true ↦ (omega arith, omega arith)
-      | false ↦ (omega arith, omega arith)
-    ]
+two_or_three (c ∷ t) = grind arith
 
 module _ (m : Cursor) (word : IsWord Attribute (piece_left m)) where
   short : IsShortPiece (piece_left m)

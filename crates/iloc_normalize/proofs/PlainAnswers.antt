@@ -1,12 +1,8 @@
 -- The normal text of a plain text.
-use Rattle.std.proofs.Common.{suc, ◌≡◌, ◌≢◌, ◌≤◌, List, [], ◌∷◌, ◌++◌, length, map, Option, Some, None}
-use Rattle.std.proofs.Common.{Result, IfSome, option_map, refl, sym, ap, ◌∙◌, arith, append-nil}
-use Rattle.std.specs.Prelude.{if◌then◌else◌, option_to_list, option_and_then}
-use Rattle.std.specs.Result.{result_ok}
-use Rattle.iloc_spec_grammar.specs.Syntax.{Text, pieces, lower, join, Region, languages, Identifier}
-use Rattle.iloc_spec_grammar.specs.Syntax.{identifier_pieces}
-use Rattle.iloc_spec_grammar.specs.Meaning.{IdentifierMeans, Means, without_extensions, no_extensions, Fault}
-use Rattle.iloc_spec_grammar.specs.Meaning.{set_of}
+use Rattle.std.proofs.Common.{suc, ◌≡◌, ◌≢◌, ◌≤◌, List, [], ◌∷◌, ◌++◌, length, map, Option, Some, None, IfSome, option_map, refl, sym, ap, ◌∙◌, arith, append-nil}
+use Rattle.std.specs.Prelude.{option_to_list}
+use Rattle.iloc_spec_grammar.specs.Syntax.{Text, pieces, lower, join, Region, languages, Identifier, identifier_pieces}
+use Rattle.iloc_spec_grammar.specs.Meaning.{IdentifierMeans, Means, without_extensions, no_extensions, set_of}
 use Rattle.iloc_spec_grammar.specs.Reading.{first_item}
 use Rattle.iloc_spec_grammar.specs.Values.{IsNormal, identifier_text, text, extensions_spelling}
 use Rattle.iloc_spec_grammar.proofs.IdentifierTexts.{identifier_means_value}
@@ -15,9 +11,8 @@ use Rattle.iloc_spec_grammar.proofs.SameMeaning.{means_by_tree}
 use Rattle.iloc_spec_grammar.proofs.SetLaws.{length-set_of-different}
 use Rattle.iloc_spec_parts.specs.Small.{SmallLocale}
 use Rattle.iloc_spec_parts.proofs.SmallTrees.{tree_is_small}
-use Rattle.iloc_spec_parts.specs.DataLocales.{DataLocale, DataMeans, data_text, made_of, whole_region}
-use Rattle.iloc_spec_parts.specs.DataLocales.{is_whole, subdivision_keyword, subdivision_pieces}
-use Rattle.iloc_spec_parts.specs.Subdivisions.{Subdivision, subdivision_text}
+use Rattle.iloc_spec_parts.specs.DataLocales.{DataLocale, DataMeans, data_text, made_of, whole_region, subdivision_keyword, subdivision_pieces}
+use Rattle.iloc_spec_parts.specs.Subdivisions.{Subdivision}
 use Rattle.iloc_spec_parts.proofs.DataLaws.{whole_region_is}
 use Rattle.iloc_spec_parts.proofs.SubdivisionLaws.{subdivision_back}
 use Rattle.iloc_pieces.specs.Plain.{IsPlain, value_of}
@@ -52,10 +47,7 @@ alone_normal t i m Data other = absurd (other refl)
 no_keyword : (r : Option Text) → IfSome r (IsNormal Region) →
     subdivision_keyword (made_of [] None (option_map whole_region r) None) ≡ None
 no_keyword None h = refl
-no_keyword (Some r) h =
-    ap (λ (o : Result Subdivision Fault). option_and_then
-    (λ s. if is_whole s then None else Some (subdivision_text (whole_region r))) (result_ok o))
-    (subdivision_back (whole_region r) (whole_region_is r h))
+no_keyword (Some r) h = search (subdivision_back, whole_region_is)
 
 same_region : (r : Option Text) →
     option_map (λ (p : Subdivision). p.region) (option_map whole_region r) ≡ r
@@ -113,23 +105,7 @@ module _ (t : Text) (i : Identifier) (m : IdentifierMeans languages (pieces t) i
   data_means : DataMeans languages t data_of
   data_means = record {
     small = small;
-    is_small = tree_is_small t small (record {
-      id = m.written;
-      keyword = None;
-      grammatical = record { id = m.grammatical; extensions = tt; different = tt; private = tt };
-      spelled = m.spelled ∙ sym (append-nil (identifier_pieces m.written));
-      one_variant = few;
-      one_value = tt;
-      means = λ j. record {
-        id = record {
-          language = (m.means j).language;
-          script = (m.means j).script;
-          region = (m.means j).region;
-          variant = first_item (variants_are j);
-        };
-        keyword = None;
-      };
-    });
+    is_small = grind (arith, tree_is_small, append-nil, few, variants_are);
     means = refl;
   }
 

@@ -1,5 +1,5 @@
 -- Parts that are written one after the other.
-use Rattle.std.proofs.Common.{◌≡◌, ℕ, ◌+◌, ◌-◌, ◌≤◌, ◌++◌, length, take, drop, sym, ap, ◌∙◌, arith}
+use Rattle.std.proofs.Common.{◌≡◌, ℕ, ◌+◌, ◌-◌, ◌≤◌, ◌++◌, length, take, drop, ◌∙◌, arith}
 use Rattle.std.proofs.lemmas.List.{length-drop, length-take-le, take-take}
 use Rattle.std.proofs.lemmas.Slice.{take-put_mid}
 use borrow.Rule.Slice.PartMut.{put_mid, same_len_mid}
@@ -22,10 +22,8 @@ pub put_two : (to a b : Text) (start i j n : ℕ) → length a ≡ i → length 
     → take n (put_mid (start + i) m (put_mid start k to a) b) ≡ (take start to ++ a) ++ b
 put_two to a b start i j n la lb room e k is m same =
     let long : length (put_mid start k to a) ≡ length to =
-    same_len_mid start k to a (la ∙ sym is
-    ∙ sym (length-take-le k (drop start to) (let d = length-drop start to in omega arith))) in
-    take-put_mid (start + i) m (put_mid start k to a) b n (omega arith) (omega arith)
-    ∙ ap (λ t. t ++ b) (take-put_mid start k to a (start + i) (omega arith) (omega arith))
+    same_len_mid start k to a (grind (arith, length-take-le, length-drop)) in
+    grind (arith, take-put_mid)
 
 -- bytes of a window in lower case
 pub length-low : (w : Text) (at n : ℕ) → at + n ≤ length w → length (lower (bytes_at w at n)) ≡ n

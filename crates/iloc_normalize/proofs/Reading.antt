@@ -1,14 +1,10 @@
 -- What is read from the beginning of a text on, as a data locale.
-use Rattle.std.proofs.Common.{◌≡◌, ◌⊎◌, inl, inr, ℕ, suc, ◌+◌, ◌≤◌, true, false, List, [], ◌∷◌, ◌++◌, length}
-use Rattle.std.proofs.Common.{take, Some, None, Ok, Err, refl, sym, ap, ◌∙◌, subst, arith, append_assoc}
-use Rattle.std.proofs.Common.{append-nil, length-append, option_map}
+use Rattle.std.proofs.Common.{◌≡◌, ◌⊎◌, inl, inr, ℕ, suc, ◌+◌, ◌≤◌, true, false, List, [], ◌∷◌, ◌++◌, length, take, Some, None, Ok, Err, refl, sym, ap, ◌∙◌, subst, arith, append_assoc, append-nil, length-append, option_map}
 use Rattle.std.proofs.Math.Seq.{take-append-add}
-use Rattle.std.proofs.lemmas.List.{append_cancel_left, length-take-le, take-take}
-use Rattle.iloc_spec_grammar.specs.Syntax.{Text, Variant, SpelledIdentifier, IsWord, is_one_byte}
-use Rattle.iloc_spec_grammar.specs.Syntax.{is_word, join, languages, pieces}
+use Rattle.std.proofs.lemmas.List.{length-take-le, take-take}
+use Rattle.iloc_spec_grammar.specs.Syntax.{Text, Variant, SpelledIdentifier, IsWord, is_one_byte, is_word, join, languages, pieces}
 use Rattle.iloc_spec_grammar.specs.Meaning.{Fault, InvalidSubtag, normal_identifier}
 use Rattle.iloc_spec_grammar.specs.Reading.{after_front, after_region, front_of, rest_of}
-use Rattle.iloc_spec_grammar.proofs.ReadingLaws.{all_while}
 use Rattle.iloc_spec_parts.specs.Small.{SmallIdentifier}
 use Rattle.iloc_spec_parts.specs.SmallComputing.{blocks_result, small_identifier}
 use Rattle.iloc_spec_parts.specs.DataComputing.{data_result}
@@ -23,10 +19,8 @@ use Rattle.iloc_outline.specs.Parts.{front_pieces}
 use Rattle.iloc_outline.specs.declared.identifier.Front.{Front}
 use Rattle.iloc_outline.proofs.Fronts.{begins_text}
 use Rattle.iloc_outline.proofs.Meanings.{refused}
-use Rattle.iloc_outline.proofs.TransformLemmas.{pieces_front_of}
-use Rattle.iloc_outline.proofs.TransformReading.{pieces_front}
 use Rattle.iloc_normalize.specs.Data.{IsDataBehind, IsDataRead, IsHead, data_alone}
-use Rattle.iloc_normalize.specs.Subdivisions.{IsNamed, data_behind, data_with}
+use Rattle.iloc_normalize.specs.Subdivisions.{data_behind}
 use Rattle.iloc_normalize.specs.Answered.{HasRefusal}
 use Rattle.iloc_normalize.specs.declared.Mode.TheVariants as modes
 use Rattle.iloc_normalize.specs.declared.data.Data.{Data}
@@ -70,37 +64,17 @@ module _ (w : Text) (len : ℕ) (language : BeginsWithLanguage (take len w)) (vs
       (odd : ((vs ≡ []) × (is_word Variant (piece_left k) ≡ false)) ⊎ (length vs ≡ 1)) where
     by_block : is_one_byte (piece_left k) ≡ true
         → data_result languages t ≡ data_behind (small_identifier i) (pieces_left k)
-    by_block single = meant t language vs (pieces_left k) cut variants few (single_starts
-        (bytes_left k) single)
+    by_block single = search (meant, single_starts)
 
     pub read_on : (d : Data) → IsDataBehind h k d → IsDataRead w len d
     read_on (datas.Head j) r = absurd r
-    read_on (datas.Named j v) r =
-        let s = r.2.0 in
-        let p = r.2.1 in
-        let behind = p.behind in
-        let inside = p.inside in
-        subst (λ (g : DataHead). IsDataRead w len (datas.Named g v)) (sym r.0) (
-          data_with (small_identifier i) s,
-          by_block r.1 ∙ r.2.2 (small_identifier i),
-          record {
-            written = i;
-            head = head;
-            named = s;
-            names = subst (λ (u : Text). IsNamed u v s) window p.named;
-            behind = omega (arith, at, behind);
-            inside = omega (arith, inside, end);
-            is = refl;
-          },
-        )
+    read_on (datas.Named j v) r = grind (arith, by_block)
     read_on (datas.Refused e) (inl (longer, is)) =
         subst (HasRefusal modes.Data t) (sym is)
         (refusal t InvalidSubtag (misfit t language vs (pieces_left k) cut variants (piece_left k)
         (rest_of (pieces_left k))
         (pieces_behind (bytes_left k)) longer odd))
-    read_on (datas.Refused e) (inr (single, (f, is, means))) =
-        subst (HasRefusal modes.Data t) (sym is)
-        (refusal t f (by_block single ∙ means (small_identifier i)))
+    read_on (datas.Refused e) (inr (single, (f, is, means))) = grind (arith, refusal, by_block)
 
 -- ---- the head
 
@@ -124,16 +98,11 @@ module _ (w : Text) (len : ℕ) (inside : len ≤ length w) (language : BeginsWi
   whole = begins_text l first ∙ rest
 
   front_bytes : take f.end w ≡ join fs
-  front_bytes =
-      sym (take-take f.end len w few) ∙ ap (take f.end) (sym whole) ∙ read.text first
-      ∙ ap (λ ps. join (front_pieces (front_of ps))) same
+  front_bytes = grind (arith, take-take, few, whole, same)
 
   front_printed : front_text f.script f.region (take f.end w) ≡ join (front_pieces (normal_identifier
       (front_of (pieces u))))
-  front_printed =
-      ap (front_text f.script f.region) (sym (take-take f.end len w few) ∙ ap (take f.end) (sym whole))
-      ∙ read.printed first
-      ∙ ap (λ ps. join (front_pieces (normal_identifier (front_of ps)))) same
+  front_printed = grind (arith, take-take, few, whole, same)
 
   long : f.end ≡ length (join fs)
   long = sym (length-take-le f.end w (omega (arith, few, inside))) ∙ ap length front_bytes
@@ -151,15 +120,7 @@ module _ (w : Text) (len : ℕ) (inside : len ≤ length w) (language : BeginsWi
   -- it is all of the text
   pub all_front : IsAfterFront l None → after_region (pieces u) ≡ [] ++ []
   unfolding front_of after_front
-  all_front cut =
-      let i = front_of (pieces u) in
-      let all : pieces u ≡ fs = sym same ∙ cut ∙ ap (λ ps. front_pieces (front_of ps)) same in
-      let none : i.variants ++ after_front (pieces u) ≡ [] =
-      append_cancel_left fs (i.variants ++ after_front (pieces u)) []
-      (sym (append_assoc fs i.variants (after_front (pieces u)))
-      ∙ ap (λ ps. ps ++ after_front (pieces u)) (sym (pieces_front (Some i)))
-      ∙ pieces_front_of (pieces u) language ∙ all ∙ sym (append-nil fs)) in
-      sym (all_while (is_word Variant) (after_region (pieces u))) ∙ none
+  all_front cut = grind arith
 
   -- something follows
   module _ (after : IsAfterFront l (Some m)) where
@@ -167,16 +128,7 @@ module _ (w : Text) (len : ℕ) (inside : len ≤ length w) (language : BeginsWi
     past = after.0
 
     pub at_front : m.at ≡ f.end + 1
-    at_front =
-        let cut = past.rest (λ e. cc) in
-        let join_is : length (join (front_pieces (front_of (pieces_left l)))) ≡ length (join fs) =
-        ap (λ ps. length (join (front_pieces (front_of ps)))) same in
-        let a = past.end in
-        let b = length_rest l in
-        let c = length_rest m in
-        let d = ap length cut in
-        let e = length-append (join (front_pieces (front_of (pieces_left l)))) (45 ∷ bytes_left m) in
-        omega (arith, a, b, c, d, e, long, join_is, first)
+    at_front = grind (arith, same, length_rest, length-append, long)
 
     pub end_there : m.at + m.remaining ≡ len
     end_there = let a = past.end in omega (arith, a, first, size)
@@ -188,8 +140,7 @@ module _ (w : Text) (len : ℕ) (inside : len ≤ length w) (language : BeginsWi
     pieces_there = ap after_region (sym same) ∙ sym after.1
 
     text_there : u ≡ join fs ++ 45 ∷ bytes_left m
-    text_there = sym rest ∙ past.rest (λ e. cc)
-        ∙ ap (λ ps. join (front_pieces (front_of ps)) ++ 45 ∷ bytes_left m) same
+    text_there = grind arith
 
     -- a variant
     module _ (word : IsWord Variant (piece_left m)) where

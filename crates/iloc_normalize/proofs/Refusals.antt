@@ -1,6 +1,5 @@
 -- Whether a text is refused as a data locale.
-use Rattle.std.proofs.Common.{◌≡◌, ◌⊎◌, inl, inr, ◌↔◌, Bool, false, IsTrue, length, take, Option, Some, None}
-use Rattle.std.proofs.Common.{IfSome, Ok, refl, subst, arith}
+use Rattle.std.proofs.Common.{◌≡◌, ◌⊎◌, inl, inr, ◌↔◌, Bool, false, IsTrue, length, take, Option, Some, None, IfSome, Ok, refl, subst, arith}
 use Rattle.std.proofs.lemmas.List.{take_all}
 use Rattle.iloc_spec_grammar.specs.Syntax.{Text, languages}
 use Rattle.iloc_spec_grammar.specs.Meaning as faults
@@ -62,11 +61,8 @@ read_accepted t r is (inr x) = let n = subst (IsDataRead t (length t)) x.2 is in
 
 pub read_refused : (t : Text) (e : ParseError) → IsDataRead t (length t) (datas.Refused e) →
     IsRefusedBy t (Some e)
-read_refused t e r =
-    let h = subst (λ s. HasRefusal modes.Data s e) (take_whole t) r in
-    ((λ n. cc, λ m. absurd (refused_not t e h m)), h)
+read_refused t e r = grind (arith, take_whole, refused_not)
 
 pub unbegun : (t : Text) (begins : Bool) → IsTrue begins ↔ BeginsWithLanguage (take (length t) t) →
     begins ≡ false → IsRefusedBy t (Some errors.InvalidLanguage)
-unbegun t begins is none = read_refused t errors.InvalidLanguage
-    (unbegun_refused modes.Data (take (length t) t) begins is none)
+unbegun t begins is none = search (read_refused, unbegun_refused)

@@ -1,16 +1,13 @@
 -- The region with which a front ends.
-use Rattle.std.proofs.Common.{◌≡◌, ◌≢◌, ◌⊎◌, inl, inr, ℕ, zero, suc, ◌+◌, ◌-◌, ◌<◌, ◌≤◌, ◌==◌, Bool, true}
-use Rattle.std.proofs.Common.{false, ◌&&◌, [], ◌∷◌, ◌++◌, length, get_or, take, drop, Option, Some, None}
-use Rattle.std.proofs.Common.{refl, sym, ap, ◌∙◌, subst, arith, append-nil, length-append, true≢false}
+use Rattle.std.proofs.Common.{◌≡◌, ◌≢◌, ◌⊎◌, inl, inr, ℕ, zero, suc, ◌+◌, ◌-◌, ◌<◌, ◌≤◌, ◌==◌, Bool, true, false, [], ◌∷◌, ◌++◌, length, get_or, take, drop, Option, Some, None, refl, sym, ap, ◌∙◌, subst, arith, append-nil, length-append, true≢false}
 use Rattle.std.specs.Prelude.{IfSome, option_to_list}
 use Rattle.std.specs.Char.{is_ascii_alphabetic, is_ascii_digit}
 use Rattle.std.specs.List.{list_all}
 use Rattle.std.proofs.Math.Seq.{drop-append_seam}
-use Rattle.std.proofs.lemmas.Bool.{and_parts, eqb-true, or_cases}
+use Rattle.std.proofs.lemmas.Bool.{and_parts}
 use Rattle.std.proofs.lemmas.Bool.Decides.{nat_tests}
 use Rattle.std.proofs.lemmas.List.{drop-take, get_or-drop, get_or-take, length-take-le}
-use Rattle.iloc_spec_grammar.specs.Syntax.{Text, SpelledIdentifier, HasWords, IsWord, Language, Region}
-use Rattle.iloc_spec_grammar.specs.Syntax.{Script, is_word, join, languages}
+use Rattle.iloc_spec_grammar.specs.Syntax.{Text, SpelledIdentifier, HasWords, IsWord, Language, Region, Script, is_word, join, languages}
 use Rattle.iloc_spec_grammar.proofs.PartTexts.{join-append}
 use Rattle.iloc_spec_grammar.proofs.RawLaws.{languages_table}
 use Rattle.iloc_spec_grammar.proofs.WordsLaws.{length-language, length-region, length-script}
@@ -45,13 +42,7 @@ script_letters p h = (and_parts (length p == 4) (list_all is_ascii_alphabetic p)
 region_bytes : (p : Text) → IsWord Region p → ((length p ≡ 2) × (list_all is_ascii_alphabetic p ≡ true))
     ⊎ ((length p ≡ 3) × (list_all is_ascii_digit p ≡ true))
 unfolding is_word
-region_bytes p h = elim (or_cases ((length p == 2) && list_all is_ascii_alphabetic p)
-    ((length p == 3) && list_all is_ascii_digit p) h) [
-      | inl a ↦ let parts = and_parts (length p == 2) (list_all is_ascii_alphabetic p) a in inl
-          (eqb-true _ _ parts.0, parts.1)
-      | inr a ↦ let parts = and_parts (length p == 3) (list_all is_ascii_digit p) a in inr
-          (eqb-true _ _ parts.0, parts.1)
-    ]
+region_bytes p h = grind arith
 
 -- bytes behind others
 behind_at : (a b : Text) (k : ℕ) → get_or (a ++ b) (length a + k) 0 ≡ get_or b k 0
@@ -70,13 +61,10 @@ letters_end a b h some long = record {
   hyphen = λ l. let n = long l in
       let at : length (a ++ b) - 3 ≡ length a + (length b - 3) = (let e =
       length-append a b in omega arith) in
-      λ e. no_hyphen (get_or b (length b - 3) 0) (all_at is_ascii_alphabetic b (length b - 3) h
-      (omega arith))
-      (sym (behind_at a b (length b - 3)) ∙ ap (λ k. get_or (a ++ b) k 0) (sym at) ∙ e);
+      grind (arith, no_hyphen, get_or, all_at, behind_at);
   digit = let at : length (a ++ b) - 1 ≡ length a + (length b - 1) = (let e =
       length-append a b in omega arith) in
-      ap (λ k. is_ascii_digit (get_or (a ++ b) k 0)) at ∙ ap is_ascii_digit (behind_at a b (length b - 1))
-      ∙ no_digit (get_or b (length b - 1) 0) (all_at is_ascii_alphabetic b (length b - 1) h (omega arith));
+      grind (arith, get_or, behind_at, no_digit, all_at);
 }
 
 no_region : (l : Text) (s : Option Text) → IsWord (Language languages) l → IfSome s (IsWord Script)
@@ -116,11 +104,7 @@ region_end a r =
 
 with_region : (l r : Text) (s : Option Text)
     → WithRegion (join (l ∷ (option_to_list s ++ option_to_list (Some r)))) r
-with_region l r s =
-    subst (λ t. WithRegion t r)
-    (sym (join-append l (option_to_list s) (r ∷ [])
-    ∙ ap (λ t. join (l ∷ option_to_list s) ++ 45 ∷ t) (append-nil r)))
-    (region_end (join (l ∷ option_to_list s)) r)
+with_region l r s = grind (arith, join-append, append-nil, region_end)
 
 -- ---- the bytes of a window
 
@@ -133,16 +117,10 @@ module _ (w : Text) (end : ℕ) (inside : end ≤ length w) (i : SpelledIdentifi
   byte k l = get_or-take end w k 0 l
 
   none : i.region ≡ None → NoRegion (take end w)
-  none e = subst NoRegion (sym (is
-      ∙ ap (λ (r : Option Text). join (i.language ∷ (option_to_list i.script ++ option_to_list r))) e
-      ∙ ap (λ ps. join (i.language ∷ ps)) (append-nil (option_to_list i.script))))
-      (no_region i.language i.script words.language words.script)
+  none e = grind (arith, append-nil, no_region)
 
   some : (r : Text) → i.region ≡ Some r → WithRegion (take end w) r
-  some r e = subst (λ t. WithRegion t r)
-      (sym (is ∙ ap (λ (r : Option Text). join (i.language ∷
-      (option_to_list i.script ++ option_to_list r))) e))
-      (with_region i.language r i.script)
+  some r e = grind (arith, with_region)
 
   is_region : (r : Text) → i.region ≡ Some r → IsWord Region r
   is_region r e = subst (λ (o : Option Text). IfSome o (IsWord Region)) e words.region
@@ -154,24 +132,11 @@ module _ (w : Text) (end : ℕ) (inside : end ≤ length w) (i : SpelledIdentifi
   -- this region
   present : (r : Text) → i.region ≡ Some r → (at : ℕ) → at + length r ≡ end
       → IsRegionStart w end i.region at
-  present r n at e =
-      let h = some r n in
-      let from : length (take end w) - length r ≡ at = (let s = size in omega arith) in
-      let more : end ≡ at + (end - at) = omega arith in
-      subst (λ (o : Option Text). IsRegionStart w end o at) (sym n) (
-        e,
-        sym (drop-take at (end - at) w) ∙ ap (λ (k : ℕ). drop at (take k w)) (sym more)
-            ∙ ap (λ (k : ℕ). drop k (take end w)) (sym from) ∙ h.bytes,
-      )
+  present r n at e = grind (arith, some, size, drop-take)
 
   -- two letters stand behind a hyphen, three digits behind a digit at that place
   two_hyphen : (r : Text) → i.region ≡ Some r → length r ≡ 2 → get_or w (end - 3) 0 ≡ 45
-  two_hyphen r n two =
-      let h = some r n in
-      let l = h.long in
-      let s = size in
-      let at : length (take end w) - length r - 1 ≡ end - 3 = omega arith in
-      sym (byte (end - 3) (omega arith)) ∙ ap (λ k. get_or (take end w) k 0) (sym at) ∙ h.hyphen
+  two_hyphen r n two = grind (arith, some, size, byte, get_or)
 
   digit_there : (r : Text) → i.region ≡ Some r → length r ≡ 3 → list_all is_ascii_digit r ≡ true
       → (k : ℕ) → k < 3

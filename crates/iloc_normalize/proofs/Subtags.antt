@@ -1,15 +1,12 @@
 -- What the pieces of a value are: `true`, and at most one other.
-use Rattle.std.proofs.Common.{◌≡◌, ℕ, suc, ◌+◌, ◌≤◌, Bool, true, false, cond, not, ◌&&◌, nat_le, List, []}
-use Rattle.std.proofs.Common.{◌∷◌, length, refl, sym, ap, ◌∙◌, arith, true≢false}
+use Rattle.std.proofs.Common.{◌≡◌, ℕ, suc, ◌+◌, ◌≤◌, Bool, true, false, cond, not, ◌&&◌, nat_le, List, [], ◌∷◌, length, refl, sym, ap, ◌∙◌, arith, true≢false}
 use Rattle.std.specs.List.{list_all}
 use Rattle.std.proofs.lemmas.Bool.{and_parts, and_right, lt-leb}
-use Rattle.iloc_spec_grammar.specs.Syntax.{Text, Attribute, is_word, IsWord, is_true, lower, pieces}
-use Rattle.iloc_spec_grammar.specs.Syntax.{first_piece}
+use Rattle.iloc_spec_grammar.specs.Syntax.{Text, Attribute, is_word, IsWord, is_true, lower, pieces, first_piece}
 use Rattle.iloc_spec_grammar.specs.Meaning.{normal_values}
 use Rattle.iloc_spec_grammar.specs.Reading.{rest_of}
 use Rattle.iloc_spec_grammar.proofs.PiecesLaws.{at_pieces}
-use Rattle.iloc_pieces.specs.Cursor.{IsNextPiece, IsShortPiece, piece_left, pieces_left}
-use Rattle.iloc_pieces.specs.Cursor.{bytes_left}
+use Rattle.iloc_pieces.specs.Cursor.{IsNextPiece, IsShortPiece, piece_left, pieces_left, bytes_left}
 use Rattle.iloc_pieces.specs.declared.place.Cursor.{Cursor}
 use Rattle.iloc_pieces.proofs.CursorLemmas.{next_at, short_attribute}
 use Rattle.iloc_normalize.specs.Subdivisions.{IsOnly, are_trues, has_small_value}
@@ -26,10 +23,7 @@ all_trues : (ps : List Text) → are_trues ps ≡ true
     → (list_all (is_word Attribute) ps ≡ true) × (normal_values ps ≡ [])
 all_trues [] e = (refl, refl)
 all_trues (p ∷ ps) e =
-    let parts = and_parts (is_word Attribute p && is_true (lower p)) (are_trues ps) e in
-    let first = and_parts (is_word Attribute p) (is_true (lower p)) parts.0 in
-    let rest = all_trues ps parts.1 in
-    (λ j. first.0 j && rest.0 j, values_true p ps first.1 ∙ rest.1)
+    grind (arith, all_trues ps (and_parts (is_word Attribute p && is_true (lower p)) (are_trues ps) e).1)
 
 abbrev tests : Bool → ℕ → Bool
 tests a n = a && nat_le (suc n) 1
@@ -70,9 +64,8 @@ test_of a b n = (a && b) && nat_le n 1
 
 small_none : (t : Text) → is_word Attribute (first_piece (pieces t)) ≡ false
     → has_small_value (pieces t) ≡ false
-small_none t = at_pieces (λ ps. is_word Attribute (first_piece ps) ≡ false → has_small_value ps ≡ false)
-    (λ p ps e. ap (λ (b : Bool). test_of b (list_all (is_word Attribute) ps) (length (normal_values
-    (p ∷ ps)))) e) t
+small_none t =
+    at_pieces (λ ps. is_word Attribute (first_piece ps) ≡ false → has_small_value ps ≡ false) (grind arith) t
 
 module _ (t : Text) (word : IsWord Attribute (first_piece (pieces t))) where
   abbrev Same : List Text → Type 0
@@ -81,12 +74,7 @@ module _ (t : Text) (word : IsWord Attribute (first_piece (pieces t))) where
 
   -- it is `true`
   small_true : is_true (lower (first_piece (pieces t))) ≡ true → Same (pieces t)
-  small_true e = at_pieces (λ ps. IsWord Attribute (first_piece ps)
-      → is_true (lower (first_piece ps)) ≡ true → Same ps)
-      (λ p ps w x. (
-        λ j. test_of (w j) (list_all (is_word Attribute) ps) (length (values_true p ps x j)),
-        values_true p ps x,
-      )) t word e
+  small_true e = grind arith
 
   -- it is another, and the last one that is
   small_only : is_true (lower (first_piece (pieces t))) ≡ false → are_trues (rest_of (pieces t)) ≡ true
@@ -109,12 +97,7 @@ module _ (t : Text) (word : IsWord Attribute (first_piece (pieces t))) where
   -- others follow
   small_many : is_true (lower (first_piece (pieces t))) ≡ false → are_trues (rest_of (pieces t)) ≡ false
       → has_small_value (pieces t) ≡ false
-  small_many e r = at_pieces (λ ps. IsWord Attribute (first_piece ps)
-      → is_true (lower (first_piece ps)) ≡ false
-      → are_trues (rest_of ps) ≡ false → has_small_value ps ≡ false)
-      (λ p ps w x more. (λ j. test_of (w j) (list_all (is_word Attribute) ps) (length
-      (values_other p ps x j)))
-      ∙ one_more ps more) t word e r
+  small_many e r = grind (arith, at_pieces, values_other, one_more)
 
 -- ---- pieces that are passed
 
@@ -156,22 +139,14 @@ pub record Reaches (key at : Cursor) : Type 0 where
   pub values : normal_values (rest_of (pieces_left key)) ≡ normal_values (rest_of (pieces_left at))
 
 pub reaches_key : (key : Cursor) → IsShortPiece (piece_left key) → Reaches key key
-reaches_key key short = record {
-  short = short;
-  window = refl;
-  end = refl;
-  from = omega arith;
-  small = refl;
-  values = refl;
-}
+reaches_key key short = grind arith
 
 module _ (key at : Cursor) (h : Reaches key at) where
   -- nothing follows
   pub only_trues : pieces_left at ≡ piece_left at ∷ []
       → (has_small_value (rest_of (pieces_left key)) ≡ true)
       × (normal_values (rest_of (pieces_left key)) ≡ [])
-  only_trues e =
-      (h.small ∙ ap has_small_value (ap rest_of e), h.values ∙ ap normal_values (ap rest_of e))
+  only_trues e = search
 
   module _ (m : Cursor) (n : IsNextPiece at m) where
     small_behind : has_small_value (rest_of (pieces_left key)) ≡ has_small_value (pieces_left m)
@@ -188,31 +163,12 @@ module _ (key at : Cursor) (h : Reaches key at) where
     module _ (word : IsWord Attribute (piece_left m)) where
       -- `true`
       pub reaches_more : is_true (lower (piece_left m)) ≡ true → Reaches key m
-      reaches_more e =
-          let same = small_true (bytes_left m) word e in
-          let next = next_at at m n in record {
-            short = short_attribute (piece_left m) word;
-            window = n.window ∙ h.window;
-            end = n.end ∙ h.end;
-            from = omega (arith, h.from, next);
-            small = small_behind ∙ same.0;
-            values = values_behind ∙ same.1;
-          }
+      reaches_more e = grind (arith, small_true, next_at, short_attribute, small_behind, values_behind)
 
       -- another, with only `true` behind it
       pub only_one : is_true (lower (piece_left m)) ≡ false → are_trues (rest_of (pieces_left m)) ≡ true
           → IsOnly key m
-      only_one e r =
-          let both = small_only (bytes_left m) word e r in
-          let next = next_at at m n in record {
-            window = n.window ∙ h.window;
-            behind = omega (arith, h.from, next);
-            end = n.end ∙ h.end;
-            word = word;
-            other = e;
-            small = small_behind ∙ both.0;
-            value = values_behind ∙ both.1;
-          }
+      only_one e r = grind (arith, small_only, next_at, behind, small_behind, values_behind)
 
       -- another, with others behind it
       pub not_only : is_true (lower (piece_left m)) ≡ false → are_trues (rest_of (pieces_left m)) ≡ false

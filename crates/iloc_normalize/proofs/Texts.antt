@@ -1,14 +1,10 @@
 -- The normal texts of data locales.
-use Rattle.std.proofs.Common.{◌≡◌, ◌⊎◌, inl, inr, ◌≤◌, Bool, true, false, List, [], ◌∷◌, ◌++◌, length, map}
-use Rattle.std.proofs.Common.{codes, Option, Some, None, IfSome, Result, Ok, option_map, option_and_then}
-use Rattle.std.proofs.Common.{refl, sym, ap, ◌∙◌, subst, arith, append_assoc, append-nil}
+use Rattle.std.proofs.Common.{◌≡◌, ◌⊎◌, inl, inr, ◌≤◌, Bool, true, false, List, [], ◌∷◌, ◌++◌, length, map, codes, Option, Some, None, IfSome, Ok, option_map, refl, sym, ap, ◌∙◌, subst, arith, append_assoc, append-nil}
 use Rattle.std.specs.Prelude.{if◌then◌else◌, option_to_list}
-use Rattle.std.specs.Result.{result_ok}
 use Rattle.std.proofs.lemmas.Bool.{cases_Bool}
 use Rattle.std.proofs.lemmas.List.{length-map}
-use Rattle.iloc_spec_grammar.specs.Syntax.{Text, SpelledIdentifier, HasWords, Region, IsWord, dashes, is_same}
-use Rattle.iloc_spec_grammar.specs.Syntax.{is_true, join, languages, lower, upper}
-use Rattle.iloc_spec_grammar.specs.Meaning.{Fault, normal_identifier}
+use Rattle.iloc_spec_grammar.specs.Syntax.{Text, SpelledIdentifier, HasWords, Region, IsWord, dashes, is_same, is_true, join, languages, lower, upper}
+use Rattle.iloc_spec_grammar.specs.Meaning.{normal_identifier}
 use Rattle.iloc_spec_grammar.specs.Reading.{first_item}
 use Rattle.iloc_spec_grammar.specs.Values.{IsNormal}
 use Rattle.iloc_spec_grammar.proofs.MapLaws.{same_is}
@@ -16,10 +12,8 @@ use Rattle.iloc_spec_grammar.proofs.PartTexts.{join-append}
 use Rattle.iloc_spec_grammar.proofs.WordsLaws.{is_word-normal, lower-lower, normal-normal}
 use Rattle.iloc_spec_parts.specs.SmallComputing.{small_identifier}
 use Rattle.iloc_spec_parts.specs.Small.{SmallIdentifier}
-use Rattle.iloc_spec_parts.specs.DataLocales.{agreed, data_text, is_whole, made_of, subdivision_keyword}
-use Rattle.iloc_spec_parts.specs.DataLocales.{subdivision_pieces, whole_region}
-use Rattle.iloc_spec_parts.specs.Subdivisions.{IsSubdivision, Subdivision, subdivision}
-use Rattle.iloc_spec_parts.specs.Subdivisions.{subdivision_text}
+use Rattle.iloc_spec_parts.specs.DataLocales.{agreed, data_text, is_whole, made_of, subdivision_keyword, subdivision_pieces, whole_region}
+use Rattle.iloc_spec_parts.specs.Subdivisions.{IsSubdivision, Subdivision, subdivision, subdivision_text}
 use Rattle.iloc_spec_parts.proofs.DataLaws.{whole_region_is}
 use Rattle.iloc_spec_parts.proofs.SubdivisionLaws.{read_is_subdivision, subdivision_back, text_of_read}
 use Rattle.iloc_outline.specs.Parts.{front_pieces}
@@ -38,10 +32,7 @@ keyword_by w b = if b then None else Some w
 
 keyword_of : (p : Subdivision) → IsSubdivision p → (l : Text) (s v : Option Text)
     → subdivision_keyword (made_of l s (Some p) v) ≡ keyword_by (subdivision_text p) (is_whole p)
-keyword_of p h l s v =
-    ap (λ (o : Result Subdivision Fault). option_and_then (λ
-    (q : Subdivision). if is_whole q then None else Some (subdivision_text p)) (result_ok o))
-    (subdivision_back p h)
+keyword_of p h l s v = search subdivision_back
 
 -- what is printed of a part that is not whole
 keyword_pieces : (w : Text) → is_true (lower w) ≡ false
@@ -57,9 +48,7 @@ keyword_dashes w = ap (λ t. codes "-u-sd-" ++ t) (append-nil w)
 text_parts : (l : Text) (s r v : List Text) (ks : List Text)
     → join (l ∷ (s ++ (r ++ (v ++ ks)))) ≡ (join (l ∷ (s ++ r)) ++ dashes v) ++ dashes ks
 text_parts l s r v ks =
-    ap (λ ps. join (l ∷ ps)) (ap (λ ps. s ++ ps) (sym (append_assoc r v ks))
-    ∙ sym (append_assoc s (r ++ v) ks)
-    ∙ ap (λ ps. ps ++ ks) (sym (append_assoc s r v)))
+    ap (λ ps. join (l ∷ ps)) (search append_assoc)
     ∙ join-append l ((s ++ r) ++ v) ks ∙ ap (λ t. t ++ dashes ks) (join-append l (s ++ r) v)
 
 -- an identifier with one variant at most
@@ -84,10 +73,7 @@ module _ (i : SpelledIdentifier) (few : length i.variants ≤ 1) where
   printed_is : (region : Option Text) (ks : List Text)
       → printed region ks ≡ (join (r.language ∷
       (option_to_list r.script ++ option_to_list region)) ++ variants) ++ dashes ks
-  printed_is region ks =
-      text_parts r.language (option_to_list r.script) (option_to_list region) (option_to_list r.variant) ks
-      ∙ ap (λ vs. (join (r.language ∷
-      (option_to_list r.script ++ option_to_list region)) ++ dashes vs) ++ dashes ks) only
+  printed_is region ks = search (text_parts, only)
 
   -- without a keyword
   plain : printed r.region [] ≡ front ++ variants
@@ -97,10 +83,7 @@ module _ (i : SpelledIdentifier) (few : length i.variants ≤ 1) where
       → data_text (made_of r.language r.script (option_map whole_region
       (option_map upper o)) r.variant) ≡ printed (option_map upper o) []
   whole_keyword None h = refl
-  whole_keyword (Some x) h =
-      ap (λ k. printed (Some (upper x)) (subdivision_pieces k))
-      (keyword_of (whole_region (upper x)) (whole_region_is (upper x)
-      (normal_region x h)) r.language r.script r.variant)
+  whole_keyword (Some x) h = search (keyword_of, whole_region_is, normal_region)
 
   pub alone_text : HasWords languages i → data_text (data_alone i) ≡ front ++ variants
   alone_text words = whole_keyword i.region words.region ∙ plain
@@ -117,12 +100,7 @@ module _ (i : SpelledIdentifier) (few : length i.variants ≤ 1) where
     part_pieces : is_whole s ≡ false
         → subdivision_pieces (subdivision_keyword (made_of r.language r.script (Some s) r.variant))
         ≡ codes "u" ∷ codes "sd" ∷ lower b ∷ []
-    part_pieces e =
-        ap subdivision_pieces (keyword_of s valid r.language r.script r.variant
-        ∙ ap (keyword_by (subdivision_text s)) e)
-        ∙ ap (λ w. subdivision_pieces (Some w)) text_is
-        ∙ keyword_pieces (lower b) (ap is_true (lower-lower b) ∙ other)
-        ∙ ap (λ w. codes "u" ∷ codes "sd" ∷ w ∷ []) (lower-lower b)
+    part_pieces e = grind (arith, keyword_of, valid, text_is, keyword_pieces, lower-lower)
 
     whole_pieces : is_whole s ≡ true
         → subdivision_pieces (subdivision_keyword (made_of r.language r.script (Some s) r.variant)) ≡ []
@@ -182,12 +160,7 @@ module _ (i : SpelledIdentifier) (few : length i.variants ≤ 1) where
 
       -- the front with the region of the subdivision
       with_region : join (r.language ∷ (option_to_list r.script ++ s.region ∷ [])) ≡ front ++ 45 ∷ s.region
-      with_region =
-          join-append r.language (option_to_list r.script) (s.region ∷ [])
-          ∙ (λ j. join (r.language ∷ sym (append-nil
-          (option_to_list r.script)) j) ++ 45 ∷ append-nil s.region j)
-          ∙ ap (λ (o : Option Text). join (r.language ∷
-          (option_to_list r.script ++ option_to_list o)) ++ 45 ∷ s.region) (sym given_none)
+      with_region = grind (arith, join-append, append-nil, given_none)
 
       pub inserted : is_whole s ≡ true → data_text (data_with r s) ≡ (front ++ 45 ∷ s.region) ++ variants
       inserted e =

@@ -1,14 +1,11 @@
 -- What the shape of a piece says.
-use Rattle.std.proofs.Common.{◌≡◌, ℕ, ◌+◌, ◌*◌, ◌<◌, ◌==◌, Bool, true, false, not, [], ◌∷◌}
-use Rattle.std.proofs.Common.{get_or, bit_or, ◌^◌, codes, refl, sym, ap, ◌∙◌, arith, inl, inr, ⊎_elim}
+use Rattle.std.proofs.Common.{◌≡◌, ℕ, ◌+◌, ◌*◌, ◌<◌, ◌==◌, Bool, true, false, not, [], ◌∷◌, get_or, bit_or, ◌^◌, refl, sym, ap, ◌∙◌, arith, inl, inr, ⊎_elim}
 use Rattle.std.specs.Char.{is_ascii_alphabetic, is_ascii_alphanumeric, to_ascii_lowercase}
 use Rattle.std.proofs.lemmas.Bool.{false_from_ne_true, and_parts, cases_Bool, eqb-true, eqb-false}
 use Rattle.std.proofs.lemmas.Bool.Decides.{nat_tests}
-use Rattle.iloc_spec_grammar.specs.Syntax.{code_u, code_t, Text, Kind, Script, IsWord, is_word, is_one_byte}
-use Rattle.iloc_spec_grammar.specs.Syntax.{is_true, is_same, lower, Bounds}
+use Rattle.iloc_spec_grammar.specs.Syntax.{code_u, code_t, Text, Kind, Script, IsWord, is_word, is_one_byte, is_true, lower, Bounds}
 use Rattle.iloc_spec_grammar.proofs.MapLaws.{same_itself}
-use Rattle.iloc_spec_grammar.proofs.WordsLaws.{word_letters_or_digits, letter_is, length-script}
-use Rattle.iloc_spec_grammar.proofs.WordsLaws.{is_word-lower}
+use Rattle.iloc_spec_grammar.proofs.WordsLaws.{word_letters_or_digits, letter_is, length-script, is_word-lower}
 use Rattle.iloc_pieces.specs.Cursor.{IsShortPiece, piece_left}
 use Rattle.iloc_pieces.specs.Shape.{bits, shape_of}
 use Rattle.iloc_pieces.specs.declared.place.Cursor.{Cursor}
@@ -30,12 +27,14 @@ hyphen_no_word k = grind (arith, false_from_ne_true, word_letters_or_digits)
 pub cursor_by_shape : (k : Kind) → Bounds 8 k → (l : Cursor) (r : Bool)
     → ((p : Text) → shape_of p ≡ l.shape → r ≡ is_word k p)
     → r ≡ is_word k (piece_left l)
-cursor_by_shape k ends l r tells = ∥∥₁_elim l.piece (Coded-set coded_bool _ _) (⊎_elim
-    (λ s. tells (piece_left l) (sym s.shape))
-    (λ long.
-    let none : is_word k (piece_left l) ≡ false =
-    false_from_ne_true _ (λ w. omega (arith, short_word k ends (piece_left l) w, long.long)) in
-    tells (45 ∷ []) (hyphen_shape ∙ sym long.shape) ∙ hyphen_no_word k ∙ sym none))
+cursor_by_shape k ends l r tells = ∥∥₁_elim l.piece (Coded-set coded_bool _ _) (grind (
+  arith,
+  ⊎_elim,
+  false_from_ne_true,
+  short_word,
+  hyphen_shape,
+  hyphen_no_word,
+))
 
 -- the shape of a short piece
 pub cursor_shape : (l : Cursor) → IsShortPiece (piece_left l) → l.shape ≡ shape_of (piece_left l)
@@ -104,13 +103,10 @@ module _ (a b c d : ℕ) (k : is_ascii_alphabetic a ≡ true) (l : is_ascii_alph
         let (e, f, g, h) =
         apart _ _ _ _ (letter_fits a k).1 (letter_fits b l).1 (letter_fits c m).1 (letter_fits d n).1
         (sym low_number ∙ eqb-true _ _ same) in
-        same ∙ sym ((λ j. is_same (codes "true") (e j ∷ f j ∷ g j ∷ h j ∷ [])) ∙ same_itself (codes "true"))
+        grind (arith, same_itself)
     | inr differs ↦ differs ∙ sym (false_from_ne_true _ (λ h.
         let e = true_word (low a ∷ low b ∷ low c ∷ low d ∷ []) h in
-        eqb-false _ _ differs
-        (low_number
-        ∙ (λ j. four (get_or (sym e j) 0 0) (get_or (sym e j) 1 0) (get_or (sym e j) 2 0)
-        (get_or (sym e j) 3 0)))))
+        grind (arith, eqb-false, low_number, get_or)))
   ]
 
 -- four letters are `true` if their number with bit 5 is that of `true`

@@ -1,24 +1,17 @@
 -- Pieces that are passed, and the bytes that they are.
-use Rattle.std.proofs.Common.{◌≡◌, ◌≢◌, ℕ, suc, ◌+◌, ◌-◌, ◌<◌, ◌≤◌, ◌==◌, true, List, [], ◌∷◌, ◌++◌, length}
-use Rattle.std.proofs.Common.{get_or, take, drop, refl, sym, ap, ◌∙◌, subst, arith, append_assoc, ⊎_elim}
-use Rattle.std.proofs.Common.{append-nil}
+use Rattle.std.proofs.Common.{◌≡◌, ◌≢◌, ℕ, suc, ◌+◌, ◌-◌, ◌<◌, ◌≤◌, ◌==◌, true, List, [], ◌∷◌, ◌++◌, length, get_or, take, drop, refl, sym, ap, ◌∙◌, subst, arith, append_assoc, ⊎_elim, append-nil}
 use Rattle.std.specs.Int.{is_in_range}
 use Rattle.std.specs.List.{AllByRecursion}
 use Rattle.std.proofs.Math.Seq.{take-add, take-append_seam, drop-cons}
 use Rattle.std.proofs.lemmas.Bool.Decides.{nat_tests}
-use Rattle.std.proofs.lemmas.List.{drop-drop, drop-take, length-append, length-drop, length-take-le}
-use Rattle.std.proofs.lemmas.List.{get_or-take, get_or-drop, take-take, take_all}
+use Rattle.std.proofs.lemmas.List.{drop-drop, drop-take, length-append, length-drop, length-take-le, get_or-take, get_or-drop, take-take, take_all}
 use Rattle.std.proofs.Math.Logic.{∥∥₁_elim}
 use Rattle.std.specs.Coded.{Coded-set, coded_ℕ}
-use Rattle.iloc_spec_grammar.specs.Syntax.{Text, Kind, Language, Script, Region, Variant, UnicodeKey}
-use Rattle.iloc_spec_grammar.specs.Syntax.{TransformKey, Attribute, PrivateSubtag, IsWord, Bounds}
-use Rattle.iloc_spec_grammar.specs.Syntax.{languages, is_one_byte, pieces, join, dashes, first_piece}
-use Rattle.iloc_spec_grammar.specs.Syntax.{IsHyphenFree}
+use Rattle.iloc_spec_grammar.specs.Syntax.{Text, Kind, Language, Script, Region, Variant, UnicodeKey, TransformKey, Attribute, PrivateSubtag, IsWord, Bounds, languages, is_one_byte, pieces, join, dashes, first_piece, IsHyphenFree}
 use Rattle.iloc_spec_grammar.proofs.PartTexts.{join-append, join-dashes, dashes-append}
 use Rattle.iloc_spec_grammar.proofs.PiecesLaws.{at_pieces, join-pieces, pieces-join, pieces_hyphen_free}
 use Rattle.iloc_spec_grammar.proofs.RawLaws.{languages_table}
-use Rattle.iloc_pieces.specs.Cursor.{IsLater, IsNextPiece, IsPast, IsEnd, IsSpanned, IsShortPiece}
-use Rattle.iloc_pieces.specs.Cursor.{piece_left, pieces_left, bytes_left, whole_text}
+use Rattle.iloc_pieces.specs.Cursor.{IsLater, IsNextPiece, IsPast, IsEnd, IsSpanned, IsShortPiece, piece_left, pieces_left, bytes_left, whole_text}
 use Rattle.iloc_pieces.specs.declared.place.Cursor.{Cursor}
 use Rattle.iloc_pieces.proofs.Shapes.{few_bytes}
 
@@ -192,16 +185,7 @@ pub spanned_both : {t : Text} {start middle end : ℕ} {ps qs : List Text} → I
     → IsSpanned t start end (ps ++ qs)
 spanned_both {t} {start} {middle} {end} {ps} {qs} s r =
     let parts : end - start ≡ (middle - start) + (end - middle) = omega (arith, s.ascends, r.ascends) in
-    let reach : start + (middle - start) ≡ middle = omega (arith, s.ascends) in
-    let further : drop (middle - start) (drop start t) ≡ drop middle t =
-    drop-drop (middle - start) start t ∙ ap (λ n. drop n t) reach in
-    record {
-      ascends = omega (arith, s.ascends, r.ascends);
-      inside = r.inside;
-      bytes = ap (λ n. take n (drop start t)) parts ∙ take-add (middle - start) (end - middle) (drop start t)
-          ∙ (λ j. s.bytes j ++ take (end - middle) (further j)) ∙ (λ j. dashes ps ++ r.bytes j)
-          ∙ sym (dashes-append ps qs);
-    }
+    grind (arith, drop-drop, take-add, dashes-append)
 
 -- no piece has no bytes
 pub spanned_none : (l : Cursor) → IsLater l → IsSpanned (whole_text l) (l.at - 1) (l.at - 1) []
@@ -212,11 +196,7 @@ pub hyphen_rest : (l : Cursor) → IsLater l → drop (l.at - 1) (whole_text l) 
 hyphen_rest l later =
     let w = l.window.now in
     let parts : l.at + l.remaining ≡ (l.at - 1) + suc l.remaining = omega (arith, later.after) in
-    let there : l.at - 1 < length w = omega (arith, later.after, l.inside) in
-    let next : suc (l.at - 1) ≡ l.at = omega (arith, later.after) in
-    ap (λ n. drop (l.at - 1) (take n w)) parts ∙ drop-take (l.at - 1) (suc l.remaining) w
-    ∙ ap (take (suc l.remaining)) (drop-cons w (l.at - 1) 0 there)
-    ∙ (λ j. later.hyphen j ∷ take l.remaining (drop (next j) w))
+    grind (arith, drop-take, drop-cons)
 
 -- one piece behind its hyphen
 pub spanned_piece : (l : Cursor) → IsLater l
@@ -224,12 +204,7 @@ pub spanned_piece : (l : Cursor) → IsLater l
 spanned_piece l later =
     let long : l.at + length (piece_left l) - (l.at - 1) ≡ suc (length (piece_left l)) =
     omega (arith, later.after) in
-    record {
-      ascends = omega arith;
-      inside = omega (arith, length_text l, length_rest l, first_within (bytes_left l));
-      bytes = (λ j. take (long j) (hyphen_rest l later j))
-          ∙ ap (λ q. 45 ∷ q) (begins (bytes_left l) ∙ sym (append-nil (piece_left l)));
-    }
+    grind (arith, length_text, length_rest, first_within, hyphen_rest, begins, append-nil)
 
 -- all that is left
 pub spanned_all : (l : Cursor) → IsLater l
@@ -296,8 +271,7 @@ past_past {l} {m} {k} {ps} {qs} p q =
           subst (λ (xs : List Text). IsSpanned (whole_text l) start (k.at - 1) xs) (append_assoc rs ps qs)
           (subst (λ (t : Text). IsSpanned t start (k.at - 1) ((rs ++ ps) ++ qs)) p.text
           (q.spanned p.later start (rs ++ ps)
-          (subst (λ (t : Text). IsSpanned t start (m.at - 1) (rs ++ ps)) (sym p.text)
-          (p.spanned later start rs s))));
+          (grind arith)));
       rest = cut_after (ps ++ qs) (bytes_left l) (bytes_left k) all;
     }
 
@@ -322,5 +296,4 @@ spanned_end {l} {m} {start} {ps} {qs} p end later s =
     (subst (λ (t : Text). IsSpanned t start (m.at + m.piece_length) ((qs ++ ps) ++ (piece_left m ∷ [])))
     p.text
     (spanned_last p.later end
-    (subst (λ (t : Text). IsSpanned t start (m.at - 1) (qs ++ ps)) (sym p.text)
-    (p.spanned later start qs s))))
+    (grind arith)))

@@ -1,7 +1,5 @@
 -- From marks to the first piece: how long it is, and its shape by the lowest bit that is set.
-use Rattle.std.proofs.Common.{◌≡◌, ℕ, zero, suc, ◌+◌, ◌-◌, ◌*◌, ◌^◌, ◌<◌, ◌≤◌, Bool, true, false, cond, not}
-use Rattle.std.proofs.Common.{◌&&◌, [], ◌∷◌, length, map, take, bit_and, refl, sym, ap, ◌∙◌, subst}
-use Rattle.std.proofs.Common.{arith, pow-suc, ◌↔◌}
+use Rattle.std.proofs.Common.{◌≡◌, ℕ, zero, suc, ◌+◌, ◌-◌, ◌*◌, ◌^◌, ◌<◌, ◌≤◌, Bool, true, false, cond, not, ◌&&◌, [], ◌∷◌, length, map, take, bit_and, refl, sym, ap, ◌∙◌, arith, pow-suc, ◌↔◌}
 use Rattle.std.specs.List.{prefix_len, slice_split}
 use Rattle.std.specs.Int.Bits.{bit_xor, xor_self}
 use Rattle.std.specs.Char.{is_ascii_alphabetic, is_ascii_alphanumeric}
@@ -128,10 +126,7 @@ clear_by : (a : Bool) (b : ℕ) (v : Text) → is_hyphen b ≡ a
 clear_by true b v e h = grind (arith, hyphen_not_odd)
 clear_by false b v e h =
     let next : 1 + before v ≡ suc (before v) = omega arith in
-    subst (λ (k : ℕ). (mask_l (map is_odd (take (suc k) (b ∷ v))) ≡ 0)
-    ↔ (letters_or_digits (take k (b ∷ v)) ≡ true)) (sym next)
-    (both (is_ascii_alphanumeric b) (is_odd b) (odd_in v) (letters_or_digits (take (before v) v)) (odd_is b e)
-    (h refl))
+    grind (arith, odd_is)
   where
     both : (a o : Bool) (m : ℕ) (r : Bool) → o ≡ not a → (m ≡ 0) ↔ (r ≡ true)
         → (cond o 1 0 + 2 * m ≡ 0) ↔ ((a && r) ≡ true)

@@ -1,12 +1,10 @@
 -- From the first piece of a line to what stands at its front.
-use Rattle.std.proofs.Common.{◌≡◌, ◌≢◌, ℕ, zero, suc, ◌+◌, ◌-◌, ◌<◌, ◌≤◌, Bool, true, false, not}
-use Rattle.std.proofs.Common.{List, [], ◌∷◌, length, get_or, take, drop, refl, sym, ap, ◌∙◌, subst, arith}
+use Rattle.std.proofs.Common.{◌≡◌, ◌≢◌, ℕ, zero, suc, ◌+◌, ◌-◌, ◌<◌, ◌≤◌, Bool, true, false, not, List, [], ◌∷◌, length, get_or, take, drop, refl, sym, ap, ◌∙◌, subst, arith}
 use Rattle.std.specs.List.{slice_split, onto_first}
 use Rattle.std.proofs.lemmas.Bool.{cases_lt, cases_Bool}
 use Rattle.std.proofs.lemmas.List.{get_or-take, length-drop, length-take-le, take-take, drop-take}
 use Rattle.std.proofs.lemmas.List.Splits.{slice_split-cons_yes, slice_split-cons_no}
-use Rattle.iloc_spec_grammar.specs.Syntax.{Text, pieces, first_piece, Kind, Attribute, Language}
-use Rattle.iloc_spec_grammar.specs.Syntax.{UnicodeKey, is_word, IsWord, is_true, lower, languages}
+use Rattle.iloc_spec_grammar.specs.Syntax.{Text, pieces, first_piece, Kind, Attribute, Language, UnicodeKey, is_word, IsWord, is_true, lower, languages}
 use Rattle.iloc_spec_grammar.specs.Meaning.{normal_values}
 use Rattle.iloc_spec_grammar.proofs.WordsLaws.{length-language, length-attribute, length-unicode_key}
 use Rattle.iloc_spec_grammar.proofs.RawLaws.{languages_table}
@@ -69,18 +67,13 @@ unfolding pieces
 first_by w len n inside less few pass ends =
     let t = take len w in
     let long : length t ≡ len = length-take-le len w inside in
-    let free : Free n t = λ i early.
-    let there : i < len = omega arith in
-    ap (fails is_hyphen) (get_or-take len w i 0 there) ∙ pass i early in
+    let free : Free n t = grind (arith, get_or-take) in
     record {
       within = omega arith;
       few = few;
-      cut = λ more short.
-          let there : n < len = omega arith in
-          cut_at n t more free (ap (fails is_hyphen) (get_or-take len w n 0 there) ∙ ends there short);
+      cut = grind (arith, cut_at, get_or-take);
       last = λ short whole. uncut t (subst (λ (m : ℕ). Free m t) whole free);
-      long = λ sixteen. subst (λ (m : ℕ). m ≤ length (first_piece (slice_split is_hyphen t))) sixteen
-          (goes_far n t (omega arith) free);
+      long = grind (arith, goes_far);
     }
 
 -- n is the lesser of the line's length and of the bytes before the first hyphen of the window
@@ -88,9 +81,7 @@ pub first_is : (w : Text) (len k n : ℕ) → 16 ≤ length w → len ≤ length
     → n ≤ len → n ≤ k → (n < len → n ≡ k) → IsFirst (take len w) n
 first_is w len k n wide inside r few less least =
     first_by w len n inside few (omega (arith, r.few)) (λ i early. r.pass i (omega arith))
-    (λ more short.
-    let same : n ≡ k = least more in
-    ap (λ i. fails is_hyphen (get_or w i 0)) same ∙ r.ends (omega arith))
+    (grind (arith, get_or))
 
 -- ---- words among the pieces
 
@@ -118,12 +109,7 @@ too_long k short p more = grind (arith, cases_Bool)
 pub later_bytes : (w : Text) (len n : ℕ) → len ≤ length w → n < len
     → drop (suc n) (take len w) ≡ take (len - n - 1) (take (length w - (n + 1)) (drop (n + 1) w))
 later_bytes w len n inside less =
-    let parts : len ≡ suc n + (len - n - 1) = omega arith in
-    let one_more : suc n ≡ n + 1 = omega arith in
-    let enough : len - n - 1 ≤ length w - (n + 1) = omega arith in
-    ap (λ (m : ℕ). drop (suc n) (take m w)) parts ∙ drop-take (suc n) (len - n - 1) w
-    ∙ ap (λ (m : ℕ). take (len - n - 1) (drop m w)) one_more
-    ∙ sym (take-take (len - n - 1) (length w - (n + 1)) (drop (n + 1) w) enough)
+    let parts : len ≡ suc n + (len - n - 1) = omega arith in grind (arith, drop-take, take-take)
 
 -- behind its first bytes a window has the rest of the text
 pub behind : (w : Text) (k : ℕ) → k + 16 ≤ length w →

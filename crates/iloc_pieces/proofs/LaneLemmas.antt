@@ -1,15 +1,12 @@
 -- From the bits of a mask to the bytes of a vector.
-use Rattle.std.proofs.Common.{◌≡◌, ℕ, zero, suc, ◌+◌, ◌-◌, ◌/◌, ◌%◌, ◌^◌, ◌<◌, ◌≤◌, Bool, true, false, not}
-use Rattle.std.proofs.Common.{◌||◌, ◌==◌, cond, [], ◌∷◌, length, map, get_or, drop, Fits, w8}
-use Rattle.std.proofs.Common.{refl, sym, ap, ◌∙◌, arith, IsTrue, leb}
+use Rattle.std.proofs.Common.{◌≡◌, ℕ, zero, suc, ◌+◌, ◌-◌, ◌/◌, ◌%◌, ◌^◌, ◌<◌, ◌≤◌, Bool, true, false, not, ◌||◌, ◌==◌, cond, [], ◌∷◌, length, map, get_or, drop, Fits, w8, refl, sym, ap, ◌∙◌, arith, IsTrue, leb}
 use Rattle.std.specs.Prelude.{nat_eq}
 use mir.Val.{bits}
 use Rattle.std.proofs.lemmas.Bool.{agree_below, agree_below_at, leb-true}
 use Rattle.std.proofs.lemmas.Bool.Decides.{nat_tests}
 use Rattle.std.proofs.lemmas.List.{length-map, get_or-take, get_or-drop}
 use Rattle.std.proofs.lemmas.Nat.Bits.{bit_at_ones}
-use Rattle.std.proofs.lemmas.Simd.{map-map, bit_mask_l, mask_l-mod, tops_compared}
-use Rattle.std.proofs.lemmas.Simd.{Each1-get_or, get_or-zip2, length-zip2}
+use Rattle.std.proofs.lemmas.Simd.{map-map, bit_mask_l, mask_l-mod, tops_compared, Each1-get_or, get_or-zip2, length-zip2}
 use lib.Lanes.{zip2, mask_l, top, Each1, sel_l}
 use Rattle.std.specs.Char.{to_ascii_lowercase}
 use Rattle.iloc_spec_grammar.specs.Syntax.{Text, lower}

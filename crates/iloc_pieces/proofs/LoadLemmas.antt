@@ -1,7 +1,5 @@
 -- A text of at most sixteen bytes in two numbers.
-use Rattle.std.proofs.Common.{◌≡◌, ℕ, zero, suc, ◌+◌, ◌-◌, ◌*◌, ◌/◌, ◌^◌, ◌<◌, ◌≤◌, [], ◌∷◌, ◌++◌}
-use Rattle.std.proofs.Common.{length, get_or, take, drop, replicate, refl, sym, ap, ◌∙◌, arith}
-use Rattle.std.proofs.Common.{append_assoc, append-nil}
+use Rattle.std.proofs.Common.{◌≡◌, ℕ, zero, suc, ◌+◌, ◌-◌, ◌*◌, ◌/◌, ◌^◌, ◌<◌, ◌≤◌, [], ◌∷◌, ◌++◌, length, get_or, take, drop, replicate, refl, sym, ap, ◌∙◌, arith, append_assoc, append-nil}
 use Rattle.std.proofs.lemmas.List.{take-append-drop, length-take-le, length-drop, get_or-drop, drop-drop}
 use Rattle.std.proofs.Math.Nat.{div-div-eq-div-mul, zero-div}
 use Rattle.std.proofs.lemmas.Nat.{pow-add}
@@ -18,9 +16,7 @@ number_drop (suc k) (x ∷ xs) h =
     let power : 2 ^ (8 * suc k) ≡ 256 * 2 ^ (8 * k) =
     omega (arith, pow-add 2 8 (8 * k), ap (λ j. 2 ^ j) (turned k)) in
     let rest : (x + 256 * number xs) / 256 ≡ number xs = omega (arith, h 0) in
-    ap (λ d. (x + 256 * number xs) / d) power
-    ∙ sym (div-div-eq-div-mul (x + 256 * number xs) 256 (2 ^ (8 * k)))
-    ∙ ap (λ m. m / 2 ^ (8 * k)) rest ∙ number_drop k xs (λ i. h (suc i))
+    grind (arith, div-div-eq-div-mul, number_drop k xs (λ i. h (suc i)))
   where
     turned : (k : ℕ) → 8 * suc k ≡ 8 + 8 * k
     turned k = omega arith
@@ -40,12 +36,7 @@ pub number_rest : (xs last : Text) (n : ℕ) → Bytes xs → 8 < length xs → 
 number_rest xs last n h long few e g =
     let k = 16 - length xs in
     let power : 128 - 8 * length xs ≡ 8 * k = omega arith in
-    let there : length xs - 8 + k ≡ 8 = omega arith in
-    let small : Bytes (drop (length xs - 8) xs) =
-    λ i. rw (get_or-drop (length xs - 8) xs i 0) (h (length xs - 8 + i)) in
-    (λ i. g i / 2 ^ power i) ∙ ap (λ l. number l / 2 ^ (8 * k)) e
-    ∙ number_drop k (drop (length xs - 8) xs) small
-    ∙ ap number (drop-drop k (length xs - 8) xs ∙ ap (λ m. drop m xs) there)
+    grind (arith, Bytes, get_or-drop, number_drop, drop-drop)
 
 -- ---- the text
 
@@ -80,10 +71,4 @@ long_text xs low high h long few e g =
     let small : Bytes (drop 8 xs) = λ i. rw (get_or-drop 8 xs i 0) (h (8 + i)) in
     let low_is : bytes 8 low ≡ take 8 xs = ap (bytes 8) e ∙ ap (λ k. bytes k (number (take 8 xs))) (sym first)
     ∙ whole_bytes (take 8 xs) (fit-take 8 xs h) in
-    let high_is : bytes 8 high ≡ drop 8 xs ++ replicate (8 - length (drop 8 xs)) 0 =
-    ap (bytes 8) g ∙ short_bytes (drop 8 xs) small rest in
-    let whole : bytes 8 low ++ bytes 8 high ≡ xs ++ replicate (8 - length (drop 8 xs)) 0 =
-    (λ i. low_is i ++ high_is i)
-    ∙ sym (append_assoc (take 8 xs) (drop 8 xs) (replicate (8 - length (drop 8 xs)) 0))
-    ∙ ap (λ l. l ++ replicate (8 - length (drop 8 xs)) 0) (take-append-drop 8 xs) in
-    ap (take (length xs)) whole ∙ front xs _
+    grind (arith, short_bytes, append_assoc, take-append-drop, front)

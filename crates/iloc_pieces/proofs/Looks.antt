@@ -1,8 +1,6 @@
 -- The piece that marks tell, and the next one.
-use Rattle.std.proofs.Common.{◌≡◌, ◌≢◌, ℕ, ◌+◌, ◌-◌, ◌<◌, ◌≤◌, [], ◌∷◌, ◌++◌, length, get_or, take}
-use Rattle.std.proofs.Common.{drop, refl, sym, ap, ◌∙◌, subst, arith, append-nil, ⊎_elim}
-use Rattle.std.proofs.lemmas.List.{drop-drop, drop-take, get_or-drop, get_or-take, length-append}
-use Rattle.std.proofs.lemmas.List.{length-take, length-take-le, drop-append-le}
+use Rattle.std.proofs.Common.{◌≡◌, ◌≢◌, ℕ, ◌+◌, ◌-◌, ◌<◌, ◌≤◌, [], ◌∷◌, ◌++◌, length, get_or, take, drop, refl, ap, ◌∙◌, arith, append-nil, ⊎_elim}
+use Rattle.std.proofs.lemmas.List.{drop-drop, drop-take, get_or-drop, get_or-take, length-append, length-take, length-take-le, drop-append-le}
 use Rattle.std.proofs.lemmas.Simd.{trailing_mask_l}
 use Rattle.std.proofs.Math.Logic.{∥∥₁_map}
 use lib.Count.{count_trailing_zeros}
@@ -67,9 +65,7 @@ module _ (l : Cursor) (short : IsShortPiece (piece_left l)) (more : l.piece_leng
   after_is : drop past (bytes_left l) ≡ after
   after_is =
       let parts : l.remaining ≡ past + (l.remaining - past) = omega (arith, not_last) in
-      ap (λ n. drop past (take n (drop l.at l.window.now))) parts
-      ∙ drop-take past (l.remaining - past) (drop l.at l.window.now)
-      ∙ ap (take (l.remaining - past)) (drop-drop past l.at l.window.now)
+      grind (arith, drop-take, drop-drop)
 
   cut : pieces_left l ≡ piece_left l ∷ pieces after
   cut = grind (arith, length_piece, first_cut, length_rest, not_last, after_is)
@@ -84,18 +80,7 @@ module _ (l : Cursor) (short : IsShortPiece (piece_left l)) (more : l.piece_leng
   next_seen r later some = ∥∥₁_map l.piece (⊎_elim
       (λ s.
       let parts : s.known ≡ past + (s.known - past) = omega (arith, s.enough) in
-      let inside : past ≤ length (bytes_left l) = omega (arith, length_rest l, not_last) in
-      let there : drop past (take s.known (closed (bytes_left l))) ≡ take (s.known - past) (closed after) =
-      ap (λ n. drop past (take n (closed (bytes_left l)))) parts
-      ∙ drop-take past (s.known - past) (closed (bytes_left l))
-      ∙ ap (take (s.known - past))
-      (drop-append-le past (bytes_left l) (45 ∷ []) inside ∙ ap closed after_is) in
-      record {
-        known = s.known - past;
-        few = omega (arith, s.most);
-        enough = λ none. absurd (some none);
-        marks = subst (λ (v : Text). AreMarks v r) there (later _ s.marks);
-      })
+      grind (arith, inside, length_rest, not_last, drop-take, drop-append-le, after_is))
       (λ long. absurd (omega (arith, long.long))))
 
   -- what begins there is the next piece
@@ -104,18 +89,4 @@ module _ (l : Cursor) (short : IsShortPiece (piece_left l)) (more : l.piece_leng
   next_piece m at len window =
       let rest : bytes_left m ≡ after = λ j. take (len j) (drop (at j) (window j)) in
       let before : m.at - 1 ≡ l.at + l.piece_length = omega arith in
-      let early : l.piece_length < l.remaining = omega (arith, not_last) in
-      record {
-        later = record {
-          after = omega arith;
-          hyphen = (λ j. get_or (window j) (before j) 0)
-              ∙ sym (get_or-drop l.at l.window.now l.piece_length 0)
-              ∙ sym (get_or-take l.remaining (drop l.at l.window.now) l.piece_length 0 early)
-              ∙ (λ j. get_or (text j) (length_piece l short j) 0) ∙ seam (piece_left l) after;
-        };
-        less = omega (arith, not_last);
-        window = window;
-        end = omega (arith, not_last);
-        rest = text ∙ ap (λ t. piece_left l ++ 45 ∷ t) (sym rest);
-        pieces = cut ∙ ap (λ t. piece_left l ∷ pieces t) (sym rest);
-      }
+      grind (arith, not_last, get_or, before, get_or-drop, get_or-take, text, length_piece, seam, cut)

@@ -1,7 +1,5 @@
 -- Bytes as bits: of lanes, of the first and the later ones, and of one that is added.
-use Rattle.std.proofs.Common.{◌≡◌, ℕ, zero, suc, ◌+◌, ◌-◌, ◌*◌, ◌/◌, ◌%◌, ◌^◌, ◌<◌, ◌≤◌, Bool, true, false}
-use Rattle.std.proofs.Common.{cond, [], ◌∷◌, ◌++◌, length, map, take, drop, bit_and}
-use Rattle.std.proofs.Common.{bit_or, ◌∙◌, arith, pow-suc}
+use Rattle.std.proofs.Common.{◌≡◌, ℕ, zero, suc, ◌+◌, ◌-◌, ◌*◌, ◌/◌, ◌%◌, ◌^◌, ◌<◌, ◌≤◌, Bool, true, false, cond, [], ◌∷◌, ◌++◌, length, map, take, drop, bit_and, bit_or, ◌∙◌, arith, pow-suc}
 use Rattle.std.specs.Int.Bits.{or_zero_l, or_zero_r}
 use Rattle.std.proofs.Math.Nat.{mod-one, zero-mod, div-one, zero-div, div-div-eq-div-mul}
 use Rattle.std.proofs.lemmas.List.{length-map, length-take-le}

@@ -1,6 +1,5 @@
 -- The words of a plain identifier as numbers.
-use Rattle.std.proofs.Common.{◌≡◌, ℕ, zero, suc, ◌+◌, ◌-◌, ◌*◌, ◌/◌, ◌%◌, ◌^◌, ◌≤◌, true, [], ◌∷◌, ◌++◌}
-use Rattle.std.proofs.Common.{length, get_or, take, drop, bit_and, refl, sym, ap, ◌∙◌, arith, Some, None}
+use Rattle.std.proofs.Common.{◌≡◌, ℕ, zero, suc, ◌+◌, ◌-◌, ◌*◌, ◌/◌, ◌%◌, ◌^◌, ◌≤◌, true, [], ◌∷◌, ◌++◌, length, get_or, take, drop, bit_and, refl, sym, ap, ◌∙◌, arith, Some, None}
 use Rattle.std.specs.List.{list_all}
 use Rattle.std.specs.Char.{is_ascii_alphanumeric}
 use Rattle.std.proofs.lemmas.Bool.Decides.{nat_tests}
@@ -41,11 +40,7 @@ number_take (suc k) [] h = zero-mod (2 ^ (8 * suc k))
 number_take (suc k) (x ∷ xs) h =
     let size : 8 * suc k ≡ 8 * k + 8 = omega arith in
     let rest : (x + 256 * number xs) / 2 ^ 8 ≡ number xs = omega (arith, h 0) in
-    let low : (x + 256 * number xs) % 2 ^ 8 ≡ x = omega (arith, h 0) in
-    let cut = mod-pow-add (x + 256 * number xs) (8 * k) 8 in
-    let again : (x + 256 * number xs) / 2 ^ 8 % 2 ^ (8 * k) ≡ number (take k xs) =
-    ap (λ y. y % 2 ^ (8 * k)) rest ∙ number_take k xs (λ i. h (suc i)) in
-    ap (λ j. (x + 256 * number xs) % 2 ^ j) size ∙ cut ∙ omega arith
+    grind (arith, mod-pow-add, number_take k xs (λ i. h (suc i)))
 
 first_number : (f : ℕ) (xs : Text) → Bytes xs → f ≤ 8 →
     bit_and (number_l 256 xs % 2 ^ 64) ((2 ^ 64 - 1) / 2 ^ (64 - 8 * f)) ≡ number (take f xs)

@@ -1,13 +1,11 @@
 -- Whether bytes that come first are all of a class.
-use Rattle.std.proofs.Common.{◌≡◌, ℕ, zero, suc, ◌<◌, ◌≤◌, ◌==◌, Bool, true, false, ◌&&◌, nat_le}
-use Rattle.std.proofs.Common.{[], ◌∷◌, length, get_or, take, refl, ap, ◌∙◌, arith}
+use Rattle.std.proofs.Common.{◌≡◌, ℕ, zero, suc, ◌<◌, ◌≤◌, ◌==◌, Bool, true, false, ◌&&◌, nat_le, [], ◌∷◌, length, get_or, take, refl, ap, ◌∙◌, arith}
 use Rattle.std.specs.List.{list_all}
 use Rattle.std.specs.Int.{is_in_range}
 use Rattle.std.specs.Char.{is_ascii_alphabetic, is_ascii_alphanumeric}
 use Rattle.std.proofs.lemmas.Bool.{cases_lt}
 use Rattle.std.proofs.lemmas.List.{length-take-le}
-use Rattle.iloc_spec_grammar.specs.Syntax.{Text, Attribute, Language, UnicodeKey, is_word}
-use Rattle.iloc_spec_grammar.specs.Syntax.{letters, letters_or_digits, languages}
+use Rattle.iloc_spec_grammar.specs.Syntax.{Text, Attribute, Language, UnicodeKey, is_word, letters, letters_or_digits, languages}
 use Rattle.iloc_pieces.specs.Run.{IsRun}
 
 pub all_pass : (p : ℕ → Bool) (n : ℕ) (w : Text) → n ≤ length w →

@@ -1,7 +1,5 @@
 -- Two vectors are the same at their first lanes exactly if no lane there differs.
-use Rattle.std.proofs.Common.{◌≡◌, ℕ, zero, suc, ◌+◌, ◌-◌, ◌*◌, ◌%◌, ◌^◌, ◌<◌, ◌≤◌, Bool, true, false}
-use Rattle.std.proofs.Common.{IsTrue, not, cond, [], ◌∷◌, length, take, map, bit_and, ◌↔◌, w8, refl}
-use Rattle.std.proofs.Common.{sym, ap, ◌∙◌, arith, eqb}
+use Rattle.std.proofs.Common.{◌≡◌, ℕ, zero, suc, ◌+◌, ◌-◌, ◌*◌, ◌%◌, ◌^◌, ◌<◌, ◌≤◌, Bool, true, false, IsTrue, not, cond, [], ◌∷◌, length, take, map, bit_and, ◌↔◌, w8, refl, sym, ap, ◌∙◌, arith, eqb}
 use Rattle.std.specs.Prelude.{nat_eq}
 use Rattle.std.proofs.lemmas.Bool.Decides.{nat_tests}
 use Rattle.std.proofs.lemmas.Nat.{and_mask, mod-mul-add, one_shl, pow_pos}
@@ -60,11 +58,4 @@ same_first v w n long wide few =
     ≡ mask_l ms =
     ap (λ l. mask_l l % 2 ^ 64) (tops_compared w8 differ v w) ∙ mask_l-mod ms 64 short in
     let ones : 1 * 2 ^ n % 2 ^ 64 - 1 ≡ 2 ^ n - 1 = ap (λ k. k - 1) (one_shl n 64 (omega arith)) in
-    let rest : bit_and
-    (mask_l (map (top (hbits w8)) (zip2 (λ a b. cond (differ a b) (2 ^ bits w8 - 1) 0) v w)) % 2 ^ 64)
-    (1 * 2 ^ n % 2 ^ 64 - 1)
-    ≡ mask_l ms % 2 ^ n =
-    (λ j. bit_and (marks j) (ones j)) ∙ and_mask (mask_l ms) n in
-    let same = same_lanes v w n (long ∙ sym wide) (omega arith) in
-    let none = is_none (mask_l ms % 2 ^ n) in
-    rw rest (λ h. same.0 (none.0 h), λ e. none.1 (same.1 e))
+    grind (arith, bit_and, and_mask, same_lanes, is_none)

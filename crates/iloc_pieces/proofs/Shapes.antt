@@ -1,19 +1,13 @@
 -- A piece of at most eight bytes is a word of the same kinds as the text that its shape spells. So a test of
 -- a word is one of its shape where the two agree on 512 numbers.
-use Rattle.std.proofs.Common.{◌≡◌, ℕ, zero, suc, ◌+◌, ◌*◌, ◌/◌, ◌%◌, ◌^◌, ◌<◌, ◌≤◌, ◌==◌, nat_le, Bool}
-use Rattle.std.proofs.Common.{true, false, cond, ◌&&◌, ◌||◌, [], ◌∷◌, length, map, slice_index, refl, sym}
-use Rattle.std.proofs.Common.{ap, ap₂, ◌∙◌, arith, inl, inr, pow-suc}
+use Rattle.std.proofs.Common.{◌≡◌, ℕ, zero, suc, ◌+◌, ◌*◌, ◌/◌, ◌%◌, ◌^◌, ◌<◌, ◌≤◌, ◌==◌, nat_le, Bool, true, false, cond, ◌&&◌, ◌||◌, [], ◌∷◌, length, map, slice_index, refl, sym, ap, ap₂, ◌∙◌, arith, inl, inr, pow-suc}
 use Rattle.std.specs.Int.{is_in_range}
 use Rattle.std.specs.Char.{is_ascii_alphabetic, is_ascii_digit, is_ascii_alphanumeric}
-use Rattle.std.proofs.lemmas.Bool.{agree_below, agree_below_at, and_parts, cases_Bool, cases_lt}
-use Rattle.std.proofs.lemmas.Bool.{false_from_ne_true}
+use Rattle.std.proofs.lemmas.Bool.{agree_below, agree_below_at, and_parts, cases_Bool, cases_lt, false_from_ne_true}
 use Rattle.std.proofs.lemmas.Bool.Decides.{nat_tests}
 use Rattle.std.proofs.lemmas.List.{length-map}
 use Rattle.std.proofs.lemmas.Nat.{pow_pos}
-use Rattle.iloc_spec_grammar.specs.Syntax.{Text, Kind, Language, Script, Region, Variant, Subtag}
-use Rattle.iloc_spec_grammar.specs.Syntax.{UnicodeKey, TransformKey, Attribute, PrivateSubtag}
-use Rattle.iloc_spec_grammar.specs.Syntax.{SubdivisionSuffix, CurrencyType, letters_or_digits, is_word}
-use Rattle.iloc_spec_grammar.specs.Syntax.{IsWord, Bounds}
+use Rattle.iloc_spec_grammar.specs.Syntax.{Text, Kind, Language, Script, Region, Variant, Subtag, UnicodeKey, TransformKey, Attribute, PrivateSubtag, SubdivisionSuffix, CurrencyType, letters_or_digits, is_word, IsWord, Bounds}
 use Rattle.iloc_spec_grammar.proofs.General.{list_all-mapped}
 use Rattle.iloc_spec_grammar.proofs.WordsLaws.{word_letters_or_digits}
 use Rattle.iloc_pieces.specs.Shape.{bits, shape_of}

@@ -1,7 +1,5 @@
 -- From the first piece of one byte to the first block.
-use Rattle.std.proofs.Common.{◌≡◌, ◌≢◌, ℕ, zero, suc, ◌+◌, ◌-◌, ◌/◌, ◌^◌, ◌<◌, ◌≤◌, Bool, true, false}
-use Rattle.std.proofs.Common.{cond, min, List, [], ◌∷◌, ◌++◌, length, map, get_or, take, drop, bit_and, w64}
-use Rattle.std.proofs.Common.{refl, sym, ap, ◌∙◌, arith, inl, inr}
+use Rattle.std.proofs.Common.{◌≡◌, ◌≢◌, ℕ, zero, suc, ◌+◌, ◌-◌, ◌/◌, ◌^◌, ◌<◌, ◌≤◌, Bool, true, false, cond, min, List, [], ◌∷◌, ◌++◌, length, map, get_or, take, drop, bit_and, w64, refl, sym, ap, ◌∙◌, arith, inl, inr}
 use Rattle.std.specs.Int.{bit_at}
 use Rattle.std.specs.List.{AllByRecursion, onto_first}
 use Rattle.std.proofs.lemmas.Bool.{cases_Bool, eqb-true, true≢false}
@@ -13,8 +11,7 @@ use Rattle.std.proofs.lemmas.Nat.Bits.{bit_at-suc, bit_at-trailing_zeros, bit_at
 use Rattle.std.proofs.lemmas.Simd.{bit_mask_l, mask_l-lt}
 use lib.Count.{count_trailing_zeros}
 use lib.Lanes.{mask_l}
-use Rattle.iloc_spec_grammar.specs.Syntax.{Text, pieces, first_piece, is_one_byte, is_word, Script, Region}
-use Rattle.iloc_spec_grammar.specs.Syntax.{IsWord, Language, Variant, languages}
+use Rattle.iloc_spec_grammar.specs.Syntax.{Text, pieces, first_piece, is_one_byte, is_word, Script, Region, IsWord, Language, Variant, languages}
 use Rattle.iloc_spec_grammar.specs.Reading.{past, skip_first, starts_block, after_region}
 use Rattle.iloc_spec_grammar.proofs.PiecesLaws.{at_pieces}
 use Rattle.iloc_spec_grammar.proofs.Readings.{IsLong, long_script, long_region, long_variant}
@@ -136,11 +133,7 @@ cut_single (c ∷ t) (suc k) l h none =
             first = [];
             between = r.first ∷ r.between;
             cut = slice_split-cons_yes is_hyphen c t is ∙ ap (λ ps. [] ∷ ps) r.cut;
-            long = (
-              sym (ap (λ ps. is_one_byte (first_piece ps)) r.cut)
-                  ∙ first_long t k (omega arith) h (none 0 (omega arith) is),
-              r.long,
-            );
+            long = grind (arith, first_long);
           }
       | inr other ↦
           record {
@@ -167,11 +160,7 @@ module _ (r : Text) (rs : List Text) (one : is_one_byte r ≡ true) where
       AllByRecursion IsLong qs → IsAhead (r ∷ rs) (skip_first f (qs ++ r ∷ rs))
   skips f word [] h = grind (arith, fails, long)
   skips f word (q ∷ qs) h = elim (cases_Bool (f q)) [
-    | inl is ↦ record {
-      between = qs;
-      cut = ap (λ (b : Bool). cond b (qs ++ r ∷ rs) (q ∷ (qs ++ r ∷ rs))) is;
-      long = h.1;
-    }
+    | inl is ↦ grind (arith, long)
     | inr other ↦ record {
       between = q ∷ qs;
       cut = ap (λ (b : Bool). cond b (qs ++ r ∷ rs) (q ∷ (qs ++ r ∷ rs))) other;
@@ -184,12 +173,7 @@ module _ (r : Text) (rs : List Text) (one : is_one_byte r ≡ true) where
   passes f word [] h = grind (arith, fails, long)
   passes f word (q ∷ qs) h = elim (cases_Bool (f q)) [
     | inl is ↦
-        let later = passes f word qs h.1 in
-        record {
-          between = later.between;
-          cut = ap (λ (b : Bool). cond b (past f (qs ++ r ∷ rs)) (q ∷ (qs ++ r ∷ rs))) is ∙ later.cut;
-          long = later.long;
-        }
+        grind (arith, passes f word qs h.1, long)
     | inr other ↦ record {
       between = q ∷ qs;
       cut = ap (λ (b : Bool). cond b (past f (qs ++ r ∷ rs)) (q ∷ (qs ++ r ∷ rs))) other;
@@ -209,27 +193,14 @@ module _ (r : Text) (rs : List Text) (one : is_one_byte r ≡ true) where
       let s = skips (is_word Script) long_script qs h in
       let g = skips (is_word Region) long_region s.between s.long in
       let v = passes (is_word Variant) long_variant g.between g.long in
-      let same : past (is_word Variant) (after_region (p ∷ (qs ++ r ∷ rs))) ≡ v.between ++ r ∷ rs =
-      ap (λ ps. past (is_word Variant) (skip_first (is_word Region) ps)) s.cut
-      ∙ ap (past (is_word Variant)) g.cut ∙ v.cut in
-      λ e. same ∙ starts v.between v.long (sym (ap starts_block same) ∙ e)
+      grind (arith, starts)
 
 -- a block that follows the words of an identifier begins with the first piece of one byte
 pub next_is : (t : Text) (k : ℕ) → k < length t → is_hyphen (get_or t k 0) ≡ true → NoneBefore t k
     → (c : ℕ) → first_piece (pieces (drop (suc k) t)) ≡ c ∷ []
     → starts_block (past (is_word Variant) (after_region (pieces t))) ≡ true
     → past (is_word Variant) (after_region (pieces t)) ≡ pieces (drop (suc k) t)
-next_is t k l h none c one =
-    let r = cut_single t k l h none in
-    at_pieces (λ rest. pieces t ≡ r.first ∷ (r.between ++ rest) → first_piece rest ≡ c ∷ []
-    → starts_block (past (is_word Variant) (after_region (pieces t))) ≡ true →
-    past (is_word Variant) (after_region (pieces t)) ≡ rest)
-    (λ q qs cut first.
-    let after = λ (ps : List Text). past (is_word Variant) (after_region ps) in
-    λ e. ap after cut
-    ∙ next_block q qs (ap is_one_byte first) r.first r.between r.long
-    (sym (ap (λ ps. starts_block (after ps)) cut) ∙ e))
-    (drop (suc k) t) r.cut one
+next_is t k l h none c one = let r = cut_single t k l h none in grind (arith, at_pieces, next_block)
 
 -- what comes before a hyphen, and what follows it
 cut_text : (t : Text) (k : ℕ) → k < length t → is_hyphen (get_or t k 0) ≡ true →
@@ -286,15 +257,13 @@ module _ (w : Text) (len at : ℕ) (room : len + 16 ≤ length w) (s : IsFirstSi
   cut_there : text ≡ take (length text - (len - at - 1 + 1)) text ++ 45 ∷ take (len - at - 1) window
   cut_there =
       let before : at ≡ length text - (len - at - 1 + 1) = omega (arith, whole) in
-      cut_text text at (omega (arith, whole)) (hyphen_at at (omega arith) ∙ s.there)
-      ∙ (λ j. take (before j) text ++ 45 ∷ rest j)
+      grind (arith, cut_text, whole, hyphen_at, rest)
 
   next_there : starts_block (past (is_word Variant) (after_region (pieces text))) ≡ true
       → past (is_word Variant) (after_region (pieces text)) ≡ pieces (take (len - at - 1) window)
   next_there e =
       next_is text at (omega (arith, whole)) (hyphen_at at (omega arith) ∙ s.there)
-      (λ i less h.
-      hyphen_at (suc (suc i)) (omega arith) ∙ s.first i less (sym (hyphen_at i (omega arith)) ∙ h))
+      (grind (arith, hyphen_at))
       (get_or (drop (suc at) text) 0 0) one e
       ∙ ap pieces rest
 

@@ -1,8 +1,6 @@
 -- The table of what may follow a language.
-use Rattle.std.proofs.Common.{◌≡◌, inl, ℕ, zero, suc, ◌+◌, ◌<◌, Bool, true, false, List, [], ◌∷◌, map}
-use Rattle.std.proofs.Common.{get_or, replicate, refl, arith}
-use Rattle.iloc_pieces.specs.PlainShape.{script_len, region_len, region_places, code_places, script_places}
-use Rattle.iloc_pieces.specs.PlainShape.{row}
+use Rattle.std.proofs.Common.{◌≡◌, inl, ℕ, zero, suc, ◌+◌, ◌<◌, Bool, true, false, List, [], ◌∷◌, map, get_or, replicate, refl, arith}
+use Rattle.iloc_pieces.specs.PlainShape.{script_len, region_len, region_places, code_places, script_places, row}
 use Rattle.iloc_pieces.specs.Plain.{ShapeOf, MayHaveShape}
 use Rattle.iloc_pieces.specs.declared.tail.Place.{Place}
 use Rattle.iloc_pieces.specs.declared.tail.Tail.{Tail}

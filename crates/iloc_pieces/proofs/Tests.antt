@@ -4,9 +4,7 @@ use Rattle.std.specs.Prelude.{nat_eq, nat_lt}
 use Rattle.std.proofs.lemmas.Bool.{eqb-true, false_from_ne_true}
 use Rattle.std.proofs.lemmas.Bool.Decides.{nat_tests}
 use Rattle.std.proofs.lemmas.Nat.{le_or_l}
-use Rattle.iloc_spec_grammar.specs.Syntax.{Text, Language, Script, Region, Variant, Subtag, UnicodeKey}
-use Rattle.iloc_spec_grammar.specs.Syntax.{TransformKey, Attribute, PrivateSubtag, SubdivisionSuffix}
-use Rattle.iloc_spec_grammar.specs.Syntax.{CurrencyType, IsWord, is_word, languages}
+use Rattle.iloc_spec_grammar.specs.Syntax.{Text, Language, Script, Region, Variant, Subtag, UnicodeKey, TransformKey, Attribute, PrivateSubtag, SubdivisionSuffix, CurrencyType, IsWord, is_word, languages}
 use Rattle.iloc_spec_grammar.proofs.WordsLaws.{length-script, length-transform_key, length-variant}
 use Rattle.iloc_pieces.specs.Shape.{shape_of}
 use Rattle.iloc_pieces.proofs.Shapes.{by_shape, spell}

@@ -1,6 +1,5 @@
 -- The bytes of words: the first two, and those of `true`.
-use Rattle.std.proofs.Common.{take, ◌≡◌, ℕ, ◌<◌, ◌≤◌, true, false, length, get_or}
-use Rattle.std.proofs.Common.{bit_or, ◌==◌, refl, arith, Bool, not, ◌||◌, ◌↔◌}
+use Rattle.std.proofs.Common.{take, ◌≡◌, ℕ, ◌<◌, ◌≤◌, true, false, length, get_or, bit_or, ◌==◌, refl, arith, Bool, not, ◌||◌, ◌↔◌}
 use Rattle.std.specs.Char.{is_ascii_alphanumeric, to_ascii_lowercase}
 use Rattle.std.proofs.lemmas.Bool.{eqb-true, cases_Bool, eq-eqb, agree_below}
 use Rattle.std.proofs.lemmas.Bool.Decides.{nat_tests}

@@ -1,30 +1,22 @@
 -- The words of a plain identifier.
-use Rattle.std.proofs.Common.{◌≡◌, ◌≢◌, inl, inr, ℕ, zero, suc, ◌+◌, ◌-◌, ◌%◌, ◌<◌, ◌≤◌, ◌==◌, Bool, true}
-use Rattle.std.proofs.Common.{false, not, ◌||◌, ◌&&◌, List, [], ◌∷◌, ◌++◌, length, map, get_or, take, drop}
-use Rattle.std.proofs.Common.{replicate, Fits, w8, refl, sym, ap, ◌∙◌, subst, arith, Some, IfSome}
-use Rattle.std.proofs.Common.{option_map, eqb, leb}
+use Rattle.std.proofs.Common.{◌≡◌, ◌≢◌, inl, inr, ℕ, zero, suc, ◌+◌, ◌-◌, ◌%◌, ◌<◌, ◌≤◌, ◌==◌, Bool, true, false, not, ◌||◌, ◌&&◌, List, [], ◌∷◌, ◌++◌, length, map, get_or, take, drop, replicate, Fits, w8, refl, sym, ap, ◌∙◌, subst, arith, IfSome, option_map, eqb, leb}
 use borrow.Author.Tests.{eqb-true}
 use Rattle.std.specs.Int.Bits.{and_zero_r}
 use Rattle.std.specs.Cmp.{first_so, second_so}
 use Rattle.std.specs.Char.{is_ascii_alphabetic, is_ascii_digit, to_ascii_lowercase, to_ascii_uppercase}
 use Rattle.std.proofs.lemmas.Bool.{agree_below, cases_lt, le-leb}
-use Rattle.std.proofs.lemmas.List.{get_or_past, get_or_append_left, get_or-append-add, get_or-drop}
-use Rattle.std.proofs.lemmas.List.{drop-drop, length-take-le, length-drop}
+use Rattle.std.proofs.lemmas.List.{get_or_past, get_or_append_left, get_or-append-add, get_or-drop, drop-drop, length-take-le, length-drop}
 use Rattle.std.proofs.Math.ListN.{get_or-map}
 use Rattle.std.proofs.Math.Seq.{drop-cons, take-add}
 use Rattle.std.proofs.lemmas.Simd.{Each1-get_or, get_or-replicate}
 use lib.Lanes.{Each1}
-use Rattle.iloc_spec_grammar.specs.Syntax.{Text, pieces, join, Language, Script, Region, is_word, IsWord}
-use Rattle.iloc_spec_grammar.specs.Syntax.{lower, upper, title, languages, HasWords}
+use Rattle.iloc_spec_grammar.specs.Syntax.{Text, pieces, join, Language, Script, Region, is_word, IsWord, lower, upper, title, languages, HasWords}
 use Rattle.iloc_spec_grammar.specs.Meaning.{IdentifierMeans, normal_identifier}
 use Rattle.iloc_spec_grammar.specs.Tree.{spelled_identifier}
 use Rattle.iloc_spec_grammar.specs.Values.{identifier_text}
 use Rattle.iloc_spec_grammar.proofs.IdentifierTexts.{pieces-identifier_text, identifier_means_value}
-use Rattle.iloc_pieces.specs.PlainShape.{script_len, region_len, part, script_at, region_at}
-use Rattle.iloc_pieces.specs.PlainShape.{plain_identifier, lower_letter, upper_letter, hyphen, digit}
-use Rattle.iloc_pieces.specs.PlainShape.{any_byte, no_byte, above, row}
-use Rattle.iloc_pieces.specs.Plain.{ShapeOf, IsShape, MayHaveShape, IsPlain, AreAboveLeast, AreAllowed}
-use Rattle.iloc_pieces.specs.Plain.{AreNormal, place_at}
+use Rattle.iloc_pieces.specs.PlainShape.{script_len, region_len, part, script_at, region_at, plain_identifier, lower_letter, upper_letter, hyphen, digit, any_byte, no_byte, above, row}
+use Rattle.iloc_pieces.specs.Plain.{ShapeOf, IsShape, MayHaveShape, IsPlain, AreAboveLeast, AreAllowed, AreNormal, place_at}
 use Rattle.iloc_pieces.specs.declared.tail.Place.{Place}
 use Rattle.iloc_pieces.specs.declared.tail.Tail.{Tail}
 use Rattle.iloc_pieces.proofs.LaneLemmas.{of_byte}
@@ -34,9 +26,7 @@ use Rattle.iloc_pieces.proofs.RunWords.{all_pass}
 
 part_next : (k f j : ℕ) (x : Text) → f + j < length x →
     part (suc k) (f + j) x ≡ get_or x (f + j) 0 ∷ part k (f + (j + 1)) x
-part_next k f j x l =
-    let next : suc (f + j) ≡ f + (j + 1) = omega arith in
-    ap (take (suc k)) (drop-cons x (f + j) 0 l) ∙ ap (λ m. get_or x (f + j) 0 ∷ take k (drop m x)) next
+part_next k f j x l = let next : suc (f + j) ≡ f + (j + 1) = omega arith in grind (arith, drop-cons, get_or)
 
 pub part_two : (f j : ℕ) (x : Text) → f + (j + 2) ≤ length x →
     part 2 (f + j) x ≡ get_or x (f + j) 0 ∷ get_or x (f + (j + 1)) 0 ∷ []
@@ -170,10 +160,7 @@ module _ {v w : Text} {f : ℕ} {ps : List Place} (h : IsFound v w f ps) where
       let at : (i : ℕ) → i < f →
       (is_ascii_alphabetic (get_or v i 0) ≡ true) × (get_or w i 0 ≡ to_ascii_lowercase (get_or v i 0)) =
       λ i l. stands_as lower_letter is_ascii_alphabetic to_ascii_lowercase refl _ _ (byte i (omega arith))
-      (h.first i l) in (
-        rw (size, h.language) (all_pass is_ascii_alphabetic f v (omega arith) (λ i l. (at i l).0)),
-        map_front to_ascii_lowercase f v w (omega arith) (omega (arith, h.long)) (λ i l. (at i l).1),
-      )
+      (h.first i l) in grind (arith, all_pass, map_front)
 
   module _ (j : ℕ) (l : f + j < 16) where
     at_place : (p : Place) → get_or ps j any_byte ≡ p → Stands p (get_or v (f + j) 0) (get_or w (f + j) 0)
@@ -203,10 +190,7 @@ module _ {v w : Text} {f : ℕ} {ps : List Place} (h : IsFound v w f ps) where
         (eqb-true _ 45 at.0, at.1)
 
   first_hyphen : get_or ps 0 any_byte ≡ hyphen → f < 16 → (get_or v f 0 ≡ 45) × (get_or w f 0 ≡ 45)
-  first_hyphen e l =
-      let none : f + 0 ≡ f = omega arith in
-      let at = hyphen_at 0 (omega arith) e in
-      (ap (λ n. get_or v n 0) (sym none) ∙ at.0, ap (λ n. get_or w n 0) (sym none) ∙ at.1)
+  first_hyphen e l = grind (arith, hyphen_at, get_or)
 
   the_script : f + 5 ≤ 16 → get_or ps 1 any_byte ≡ upper_letter → get_or ps 2 any_byte ≡ lower_letter →
       get_or ps 3 any_byte ≡ lower_letter → get_or ps 4 any_byte ≡ lower_letter
@@ -217,11 +201,7 @@ module _ {v w : Text} {f : ℕ} {ps : List Place} (h : IsFound v w f ps) where
       let b = lower_at 2 (omega arith) eb in
       let c = lower_at 3 (omega arith) ec in
       let d = lower_at 4 (omega arith) ed in
-      let bytes = part_four f 1 v (omega (arith, h.lanes.0)) in (
-        rw bytes (script_of _ _ _ _ a.0 b.0 c.0 d.0),
-        part_four f 1 w (omega (arith, h.long)) ∙ (λ i. a.1 i ∷ b.1 i ∷ c.1 i ∷ d.1 i ∷ [])
-            ∙ ap title (sym bytes),
-      )
+      grind (arith, part_four, script_of)
 
   the_region : (j : ℕ) → f + (j + 2) ≤ 16 → get_or ps j any_byte ≡ upper_letter →
       get_or ps (j + 1) any_byte ≡ upper_letter
@@ -230,10 +210,7 @@ module _ {v w : Text} {f : ℕ} {ps : List Place} (h : IsFound v w f ps) where
   the_region j l ea eb =
       let a = upper_at j (omega arith) ea in
       let b = upper_at (j + 1) (omega arith) eb in
-      let bytes = part_two f j v (omega (arith, h.lanes.0)) in (
-        rw bytes (region_of _ _ a.0 b.0),
-        part_two f j w (omega (arith, h.long)) ∙ (λ i. a.1 i ∷ b.1 i ∷ []) ∙ ap upper (sym bytes),
-      )
+      grind (arith, part_two, region_of)
 
   the_code : (j : ℕ) → f + (j + 3) ≤ 16 → get_or ps j any_byte ≡ digit → get_or ps (j + 1) any_byte ≡ digit →
       get_or ps (j + 1 + 1) any_byte ≡ digit
@@ -243,100 +220,41 @@ module _ {v w : Text} {f : ℕ} {ps : List Place} (h : IsFound v w f ps) where
       let a = digit_at j (omega arith) ea in
       let b = digit_at (j + 1) (omega arith) eb in
       let c = digit_at (j + 1 + 1) (omega arith) ec in
-      let bytes = part_three f j v (omega (arith, h.lanes.0)) in (
-        rw bytes (code_of _ _ _ a.0 b.0 c.0),
-        part_three f j w (omega (arith, h.long)) ∙ (λ i. a.1 i ∷ b.1 i ∷ c.1 i ∷ []) ∙ ap upper (sym bytes),
-      )
+      grind (arith, part_three, code_of)
 
 -- the parts of each shape
 parts_are : {v w : Text} {f : ℕ} {ps : List Place} (s : Bool) (r : ℕ) → ShapeOf s r ps →
     f + (script_len s + region_len r) ≤ 16 → IsFound v w f ps → AreParts v w f s r
-parts_are _ _ ShapeOf.language l h =
-    let (word, lowered) = the_language h in
-    record {
-      language = word;
-      language_case = lowered;
-      script = tt;
-      script_case = refl;
-      region = tt;
-      region_case = refl;
-      hyphens = tt;
-      hyphens_kept = tt;
-    }
+parts_are _ _ ShapeOf.language l h = let (word, lowered) = the_language h in grind arith
 parts_are _ _ ShapeOf.region l h =
     let (word, lowered) = the_language h in
     let at = first_hyphen h refl (omega arith) in
     let region = the_region h 1 (omega arith) refl refl in
-    record {
-      language = word;
-      language_case = lowered;
-      script = tt;
-      script_case = refl;
-      region = region.0;
-      region_case = ap Some region.1;
-      hyphens = at.0;
-      hyphens_kept = at.1;
-    }
+    grind arith
 parts_are _ _ ShapeOf.code l h =
     let (word, lowered) = the_language h in
     let at = first_hyphen h refl (omega arith) in
     let region = the_code h 1 (omega arith) refl refl refl in
-    record {
-      language = word;
-      language_case = lowered;
-      script = tt;
-      script_case = refl;
-      region = region.0;
-      region_case = ap Some region.1;
-      hyphens = at.0;
-      hyphens_kept = at.1;
-    }
+    grind arith
 parts_are _ _ ShapeOf.script l h =
     let (word, lowered) = the_language h in
     let at = first_hyphen h refl (omega arith) in
     let script = the_script h (omega arith) refl refl refl refl in
-    record {
-      language = word;
-      language_case = lowered;
-      script = script.0;
-      script_case = ap Some script.1;
-      region = tt;
-      region_case = refl;
-      hyphens = at.0;
-      hyphens_kept = at.1;
-    }
+    grind arith
 parts_are _ _ ShapeOf.script_region l h =
     let (word, lowered) = the_language h in
     let at = first_hyphen h refl (omega arith) in
     let script = the_script h (omega arith) refl refl refl refl in
     let region = the_region h 6 (omega arith) refl refl in
     let there = hyphen_at h 5 (omega arith) refl in
-    record {
-      language = word;
-      language_case = lowered;
-      script = script.0;
-      script_case = ap Some script.1;
-      region = region.0;
-      region_case = ap Some region.1;
-      hyphens = (at.0, there.0);
-      hyphens_kept = (at.1, there.1);
-    }
+    grind arith
 parts_are _ _ ShapeOf.script_code l h =
     let (word, lowered) = the_language h in
     let at = first_hyphen h refl (omega arith) in
     let script = the_script h (omega arith) refl refl refl refl in
     let region = the_code h 6 (omega arith) refl refl refl in
     let there = hyphen_at h 5 (omega arith) refl in
-    record {
-      language = word;
-      language_case = lowered;
-      script = script.0;
-      script_case = ap Some script.1;
-      region = region.0;
-      region_case = ap Some region.1;
-      hyphens = (at.0, there.0);
-      hyphens_kept = (at.1, there.1);
-    }
+    grind arith
 
 -- which are an identifier that means their normal text
 has_words : {v w : Text} {f : ℕ} {s : Bool} {r : ℕ} → AreParts v w f s r →
@@ -433,9 +351,7 @@ module _ {v a w : Text} {f : ℕ} {t : Tail} (h : IsRead v a w f t) where
     long = h.long;
     few = h.few;
     language = h.language;
-    first = λ i l. subst (λ (p : Place). Stands p (get_or v i 0) (get_or w i 0))
-        (placed m t s (8 - f + i) ∙ language_place s.places (8 - f + i) (omega (arith, h.few)))
-        (stand i (omega (arith, h.few)));
+    first = grind (arith, get_or, placed, language_place, stand);
     rest = λ j l. let there : 8 - f + (f + j) ≡ 8 + j = omega (arith, h.few) in
         subst (λ (p : Place). Stands p (get_or v (f + j) 0) (get_or w (f + j) 0))
         (placed m t s (8 - f + (f + j)) ∙ ap (λ n. get_or (row s.places) n any_byte) there

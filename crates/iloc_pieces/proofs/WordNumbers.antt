@@ -1,18 +1,14 @@
 -- The numbers of words, and how they are computed.
-use Rattle.std.proofs.Common.{◌≡◌, ℕ, zero, suc, ◌+◌, ◌-◌, ◌*◌, ◌/◌, ◌%◌, ◌^◌, ◌<◌, ◌≤◌, true, [], ◌∷◌}
-use Rattle.std.proofs.Common.{length, map, get_or, take, drop, replicate, ◌++◌, bit_or, refl, sym, ap, ◌∙◌}
-use Rattle.std.proofs.Common.{subst, arith, pow-suc}
+use Rattle.std.proofs.Common.{◌≡◌, ℕ, zero, suc, ◌+◌, ◌-◌, ◌*◌, ◌/◌, ◌%◌, ◌^◌, ◌<◌, ◌≤◌, true, [], ◌∷◌, length, map, get_or, take, drop, replicate, ◌++◌, bit_or, refl, sym, ap, ◌∙◌, subst, arith, pow-suc}
 use Rattle.std.specs.Int.{w64, swap_bytes, from_be_bytes, from_le_bytes}
 use Rattle.std.proofs.Math.Seq.{take-append_seam}
 use Rattle.std.proofs.lemmas.Bool.{and_parts}
 use Rattle.std.proofs.lemmas.Nat.{le_bytes_8, or_block, or_of_8, pow-add}
-use Rattle.std.proofs.Math.Nat.{mul-add-div_right, mul-le-mul_right, zero-mul, mul_assoc, add-mul}
-use Rattle.std.proofs.Math.Nat.{div-eq_of_lt, mod-eq_of_lt}
+use Rattle.std.proofs.Math.Nat.{mul-add-div_right, mul-le-mul_right, zero-mul, mul_assoc, add-mul, div-eq_of_lt, mod-eq_of_lt}
 use Rattle.std.specs.List.{take-map}
 use Rattle.std.proofs.lemmas.List.{length-append, length-replicate, get_or-drop}
 use Rattle.iloc_spec_grammar.specs.Syntax.{Text, UnicodeKey, TransformKey, IsWord, letters_or_digits, lower}
-use Rattle.iloc_spec_grammar.proofs.WordsLaws.{length-unicode_key, length-transform_key}
-use Rattle.iloc_spec_grammar.proofs.WordsLaws.{word_letters_or_digits}
+use Rattle.iloc_spec_grammar.proofs.WordsLaws.{length-unicode_key, length-transform_key, word_letters_or_digits}
 use Rattle.iloc_tinystr.specs.Number.{number}
 use Rattle.iloc_pieces.proofs.WordBytes.{low_bit}
 use Rattle.iloc_pieces.specs.Words.{IsUpToEight, high_first, word_number}
@@ -115,8 +111,7 @@ fits_replicate (suc n) c l (suc i) = fits_replicate n c l i
 power_of : (k : ℕ) → 2 ^ (8 * k) ≡ 256 ^ k
 power_of zero = refl
 power_of (suc k) =
-    let more : 8 * suc k ≡ 8 + 8 * k = omega arith in
-    ap (λ j. 2 ^ j) more ∙ pow-add 2 8 (8 * k) ∙ ap (λ m. 256 * m) (power_of k) ∙ omega (arith, pow-suc 256 k)
+    let more : 8 * suc k ≡ 8 + 8 * k = omega arith in grind (arith, pow-add, power_of k, pow-suc)
 
 -- bit 5 of each byte
 or_bytes : (n : ℕ) (z : Text) → length z ≡ n → Bytes z
@@ -131,10 +126,8 @@ or_bytes (suc n) (b ∷ z) long small =
     let x : high_first n z < 2 ^ (8 * n) =
     subst (λ (k : ℕ). high_first n z < k) (sym (power_of n)) (number_fits n z rest) in
     let y : high_first n (replicate n 32) < 2 ^ (8 * n) =
-    subst (λ (k : ℕ). high_first n (replicate n 32) < k) (sym (power_of n))
-    (number_fits n (replicate n 32) spaces) in
-    (λ j. bit_or (b * sym (power_of n) j + high_first n z)
-    (32 * sym (power_of n) j + high_first n (replicate n 32)))
+    grind (arith, power_of, number_fits) in
+    (grind (arith, bit_or, power_of))
     ∙ or_block (8 * n) b 32 (high_first n z) (high_first n (replicate n 32)) x y
     ∙ (λ j. bit_or b 32 * power_of n j + or_bytes n z (omega arith) rest j)
 
@@ -187,9 +180,7 @@ short_number_is p x few small word e =
     ) in
     let bytes : Bytes z = bytes_zeros p (8 - length p) small in
     let front : take (length p) z ≡ p = take-append_seam p (replicate (8 - length p) 0) in
-    number_is z (length p) x long few bytes (ap letters_or_digits front ∙ word)
-    (e ∙ ap (swap_bytes w64) (sym (number-zeros p (8 - length p))) ∙ swapped z long bytes)
-    ∙ ap word_number front
+    grind (arith, number_is, number-zeros, swapped)
 
 -- ---- words that have numbers
 

@@ -1,6 +1,5 @@
 -- The numbers of words have the order of the words.
-use Rattle.std.proofs.Common.{◌≡◌, ℕ, zero, suc, ◌+◌, ◌*◌, ◌^◌, ◌<◌, ◌≤◌, true, [], ◌∷◌, length, get_or}
-use Rattle.std.proofs.Common.{refl, sym, ap, ◌∙◌, arith, inl, inr}
+use Rattle.std.proofs.Common.{◌≡◌, ℕ, zero, suc, ◌+◌, ◌*◌, ◌^◌, ◌<◌, ◌≤◌, true, [], ◌∷◌, length, get_or, refl, sym, ap, ◌∙◌, arith, inl, inr}
 use Rattle.std.specs.List.{AllByRecursion}
 use Rattle.std.specs.Ordering.{nat_cmp, ordering_then}
 use Rattle.std.specs.Cmp.{nat_cmp_is}
@@ -10,10 +9,8 @@ use Rattle.std.specs.Char.{is_ascii_alphanumeric, to_ascii_lowercase}
 use Rattle.std.proofs.lemmas.Bool.{and_parts, cases_lt}
 use Rattle.std.proofs.lemmas.Bool.Decides.{nat_tests}
 use Rattle.std.proofs.Math.Nat.{mul-le-mul_right}
-use Rattle.iloc_spec_grammar.specs.Syntax.{Text, Attribute, Variant, IsWord, letters_or_digits, lower}
-use Rattle.iloc_spec_grammar.specs.Syntax.{word_cmp}
-use Rattle.iloc_spec_grammar.proofs.WordsLaws.{length-attribute, length-variant, length-lower}
-use Rattle.iloc_spec_grammar.proofs.WordsLaws.{word_letters_or_digits}
+use Rattle.iloc_spec_grammar.specs.Syntax.{Text, Attribute, Variant, IsWord, letters_or_digits, lower, word_cmp}
+use Rattle.iloc_spec_grammar.proofs.WordsLaws.{length-attribute, length-variant, length-lower, word_letters_or_digits}
 use Rattle.iloc_pieces.specs.Words.{IsUpToEight, high_first, word_number}
 use Rattle.iloc_pieces.proofs.WordNumbers.{pow_some, number_fits}
 
@@ -77,12 +74,7 @@ order (suc n) (a ∷ p) (b ∷ q) l m h k =
         | inl less ↦ is_greater _ _ (first_counts b a (256 ^ n) (high_first n q) (high_first n p) less
             (number_fits n q (above_bytes q k.1)))
             ∙ sym (ap (λ o. ordering_then o (slice_cmp nat_cmp p q)) (is_greater a b less))
-        | inr same ↦ (
-            let one : a ≡ b = omega arith in
-            ap (λ c. nat_cmp (c * 256 ^ n + high_first n p) (b * 256 ^ n + high_first n q)) one
-            ∙ rest_counts (b * 256 ^ n) (high_first n p) (high_first n q)
-            ∙ order n p q (omega arith) (omega arith) h.1 k.1
-            ∙ sym (ap (λ o. ordering_then o (slice_cmp nat_cmp p q)) (is_equal a b one)))
+        | inr same ↦ grind (arith, rest_counts, order n p q (omega arith) (omega arith) h.1 k.1, is_equal)
       ]
     ]
 

@@ -1,3 +1,4 @@
+use Rattle.std.proofs.Common.{arith}
 use Rattle.iloc_normalize.specs.declared.Mode.TheVariants.{Data}
 use Rattle.iloc_faults.proofs.FaultAnswers.{good_is, bad_is, inside_is}
 use Rattle.iloc_faults.proofs.fault_in.Goals as goal
@@ -7,12 +8,4 @@ returns-in-Data-clause-inside g c =
     inside_is Data c.args.text.now c.data_fault.result c.data_fault.ensures.refused
 
 pub returns-in_default : goal.returns-in_default
-returns-in_default g c =
-    let bad =
-    bad_is c.args.mode c.args.text.now c.in_default.not-Data c.walk_text.result c.walk_text.ensures.bad in
-    record {
-      accepted = good_is c.args.mode c.args.text.now c.walk_text.result c.walk_text.ensures.good
-          c.walk_text.ensures.bad;
-      refused = bad;
-      inside = inside_is c.args.mode c.args.text.now c.walk_text.result bad;
-    }
+returns-in_default g c = grind (arith, bad_is, good_is, inside_is)

@@ -1,7 +1,6 @@
-use Rattle.std.proofs.Common.{ℕ, None, take, refl, ap, subst}
+use Rattle.std.proofs.Common.{arith, ℕ, take, ap, subst}
 use Rattle.iloc_spec_grammar.specs.Syntax.{Text}
 use Rattle.iloc_pieces.specs.Window.{text_in}
-use Rattle.iloc_faults.specs.Places.{IsAccepted}
 use Rattle.iloc_faults.specs.States.{IsFaultFound}
 use Rattle.iloc_faults.proofs.FaultAnswers.{good_is, place_is}
 use Rattle.iloc_faults.proofs.place_in.Goals as goal
@@ -21,10 +20,4 @@ returns-in-Some-clause-inside g c =
     (found.2, found.3)
 
 pub returns-in-None-clause-accepted : goal.returns-in-None-clause-accepted
-returns-in-None-clause-accepted g c =
-    let text = ap (λ (n : ℕ). take n c.args.text.bytes.now) c.len.ensures in
-    let h = good_is c.args.mode (take c.len.result c.args.text.bytes.now) None
-    (λ e. c.in-None.ensures.good e) tt in
-    let is : IsAccepted c.args.mode (text_in c.args.text) =
-    subst (IsAccepted c.args.mode) text (h.0 refl) in
-    (λ e. is, λ a. refl)
+returns-in-None-clause-accepted g c = grind (arith, good_is)

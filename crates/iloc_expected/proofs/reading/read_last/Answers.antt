@@ -1,13 +1,10 @@
+use Rattle.std.proofs.Common.{arith}
 use Rattle.iloc_faults.proofs.Bits.{cut_bytes}
 use Rattle.iloc_expected.proofs.Ending.{again_bytes, read_again, none_again, some_again}
 use Rattle.iloc_expected.proofs.reading.read_last.Goals as goal
 
 pub read_pieces-requires : goal.read_pieces-requires
-read_pieces-requires g c =
-    let short = c.requires.short in
-    let bytes = again_bytes c.args.at c.cursor_in.result _ c.with_hyphen-bytes.result short
-    (cut_bytes c.args.at short) c.cursor_in.ensures.rest c.with_hyphen-bytes.ensures in
-    (c.requires.read.0, read_again c.args.at c.cursor_in.result short c.requires.last bytes c.requires.read.1)
+read_pieces-requires g c = grind (arith, again_bytes, cut_bytes, read_again)
 
 pub returns-in-Some : goal.returns-in-Some
 returns-in-Some g c ps h =

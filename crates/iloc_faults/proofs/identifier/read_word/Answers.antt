@@ -1,4 +1,4 @@
-use Rattle.std.proofs.Common.{Some, None, sym, ◌∙◌, subst}
+use Rattle.std.proofs.Common.{arith, Some, None, sym, subst}
 use Rattle.iloc_pieces.specs.Cursor.{piece_left}
 use Rattle.iloc_faults.specs.declared.state.Stage.{Stage}
 use Rattle.iloc_faults.specs.declared.state.Stage.TheVariants.{Script}
@@ -14,13 +14,7 @@ returns-then-is_script g c vs h =
     IsWordRead c.args.mode c.args.at
     (word_next c.args.mode s vs (piece_left c.args.at)) (Some (Script, None)))
     (sym c.in-Language.is)
-    (script_read c.args.mode c.args.at vs (none_yet c.args.mode c.args.at c.args.variants vs none h)
-    (sym c.is_script.ensures ∙ c.if-is_script.true))
+    (grind (arith, script_read, none_yet))
 
 pub returns-in-Region : goal.returns-in-Region
-returns-in-Region g c vs h =
-    subst (λ (s : Stage).
-    IsWordRead c.args.mode c.args.at
-    (word_next c.args.mode s vs (piece_left c.args.at)) c.read_variant.result)
-    (sym c.in-Region.is)
-    (c.read_variant.ensures vs h)
+returns-in-Region g c vs h = grind arith

@@ -1,23 +1,13 @@
-use Rattle.std.proofs.Common.{◌≡◌, ◌+◌, ◌-◌, ◌<◌, ℕ, [], length, map, sym, ◌∙◌, arith, subst}
+use Rattle.std.proofs.Common.{◌≡◌, ◌-◌, ℕ, [], length, arith}
 use Rattle.std.proofs.lemmas.List.{length-map, length-take-le}
 use Rattle.std.proofs.lemmas.List.Sorted.{IsNonDecreasingBy-from_sort}
-use Rattle.iloc_pieces.specs.Words.{word_number}
 use Rattle.iloc_faults.specs.States.{variants_left}
-use Rattle.iloc_faults.proofs.Chunks.{IsCompared, compare_starts, compare_ends, least, left_here, with_twice}
-use Rattle.iloc_faults.proofs.Chunks.{with_once, found_within}
+use Rattle.iloc_faults.proofs.Chunks.{IsCompared, compare_starts, compare_ends, least, left_here, with_twice, with_once, found_within}
 use Rattle.iloc_faults.proofs.VariantsLeft.{new_words, variant_numbers, variants_are}
 use Rattle.iloc_faults.proofs.repeats.count_in.Goals as goal
 
 pub chunks-init : goal.chunks-init
-chunks-init c =
-    let words = map word_number (variants_left c.args.first) in
-    let e : length words ≡ c.args.all =
-    length-map (variants_left c.args.first) word_number ∙ sym c.requires.all in (
-      subst (λ (n : ℕ). IsCompared words c.args.first 0 n) e
-          (compare_starts words c.args.first (variant_numbers c.args.first)),
-      c.requires.some,
-      omega arith,
-    )
+chunks-init c = grind (arith, length-map, IsCompared, compare_starts, variant_numbers)
 
 pub has_twice-requires : goal.has_twice-requires
 has_twice-requires c = IsNonDecreasingBy-from_sort (λ (x : ℕ). x) _ c.sort_unstable.ensures.sorted
@@ -78,11 +68,7 @@ chunks-smaller c =
     let f = found_within c.chunks.invariant.0 c.min-count.result m.second c.fill-later.new.words
     c.sort_unstable.new.self c.fill-later.result long c.fill-later.ensures
     c.sort_unstable.ensures.permutation c.count_others.result c.count_others.ensures in
-    let some = m.some c.chunks.invariant.1 (omega (arith, c.chunks-test.true)) in
-    let end = c.chunks.done + c.min-count.result in
-    let less : end + c.count_others.result - end < c.chunks.fresh - c.chunks.done =
-    omega (arith, f, some, m.second, c.chunks-test.true) in
-    less
+    grind arith
 
 pub chunks-preserved : goal.chunks-preserved
 chunks-preserved c =

@@ -1,7 +1,7 @@
-use Rattle.std.proofs.Common.{sym, ap, ◌∙◌, arith, subst, ◌<◌, ◌≡◌, ℕ, length, take}
+use Rattle.std.proofs.Common.{sym, ap, ◌∙◌, arith, ◌<◌, ℕ, length}
 use Rattle.std.specs.List.{list_any}
 use Rattle.iloc_pieces.proofs.WordOrder.{variant_fits}
-use Rattle.iloc_faults.specs.Numbers.{same, AreOthers}
+use Rattle.iloc_faults.specs.Numbers.{same}
 use Rattle.iloc_faults.proofs.NewNumbers.{search_is, others_one, come_before, come_all}
 use Rattle.iloc_faults.proofs.VariantsLeft.{number_here, variant_at}
 use Rattle.iloc_faults.proofs.repeats.count_others.Goals as goal
@@ -23,9 +23,7 @@ returns-then-is_ok c ns a long =
     let k = c.loop-count.invariant ns a long in
     let here = number_here (variant_at _ ns _ (omega (arith, long, c.loop-count-test.true)) k.1) in
     come_before c.args.sorted.now ns c.args.most c.loop-count.count long c.loop-count-test.true k.0
-    (ap (λ (n : ℕ). list_any (same n) c.args.sorted.now) (sym here.1 ∙ sym c.word_number.ensures)
-    ∙ sym (search_is c.args.sorted.now _ _ c.binary_search.ensures.position c.requires.sorted)
-    ∙ sym c.is_ok.ensures.value ∙ c.if-is_ok.true)
+    (grind (arith, search_is))
 
 pub loop-count-preserved : goal.loop-count-preserved
 loop-count-preserved c ns a long =
@@ -41,9 +39,4 @@ loop-count-preserved c ns a long =
     )
 
 pub returns : goal.returns
-returns c ns a long =
-    let k = c.loop-count.invariant ns a long in
-    let all : c.loop-count.count ≡ c.args.most =
-    omega (arith, c.loop-count-test.false, c.loop-count.auto.count-end) in
-    come_all c.args.sorted.now ns c.args.most long
-    (subst (λ (n : ℕ). AreOthers c.args.sorted.now (take n ns)) all k.0)
+returns c ns a long = grind (arith, come_all)

@@ -4,10 +4,7 @@ use Rattle.iloc_faults.proofs.VariantsLeft.{one_alone}
 use Rattle.iloc_faults.proofs.repeats.count_variants.Goals as goal
 
 pub returns-then-is_last : goal.returns-then-is_last
-returns-then-is_last c =
-    let one = one_alone c.variants.at (c.is_last.ensures.0 c.if-is_last.true)
-    (sym c.is_variant.ensures ∙ c.variants-test.true) in
-    omega (arith, c.variants.invariant.0, one)
+returns-then-is_last c = grind (arith, one_alone)
 
 pub next-at-requires-clause-short : goal.next-at-requires-clause-short
 next-at-requires-clause-short c = short_variant _ (sym c.is_variant.ensures ∙ c.variants-test.true)

@@ -1,8 +1,7 @@
-use Rattle.std.proofs.Common.{◌≡◌, ◌<◌, ◌≤◌, ◌++◌, ℕ, length, drop, sym, ap, ◌∙◌, arith, subst}
+use Rattle.std.proofs.Common.{◌<◌, ◌≤◌, ◌++◌, length, ◌∙◌, arith}
 use Rattle.std.proofs.Math.Seq.{drop-append_seam}
 use Rattle.std.proofs.lemmas.List.{length-append, length-set}
 use Rattle.iloc_pieces.proofs.WordOrder.{variant_fits}
-use Rattle.iloc_faults.specs.Numbers.{AreNumbersAt}
 use Rattle.iloc_faults.proofs.NewNumbers.{taken_more, all_taken}
 use Rattle.iloc_faults.proofs.VariantsLeft.{number_here, variant_at}
 use Rattle.iloc_faults.proofs.repeats.fill.Goals as goal
@@ -36,9 +35,4 @@ loop-word-preserved c ns a long =
 pub returns : goal.returns
 returns c ns ks a long =
     let k = c.loop-word.invariant (ns ++ ks) a (omega (arith, long, length-append ns ks)) in
-    let all : c.loop-word.word-index ≡ length c.loop-word.words =
-    omega (arith, c.loop-word-test.false, c.loop-word.auto.words, c.loop-word.auto.word-index-end) in (
-      all_taken c.loop-word.words ns ks c.loop-word.word-index all long k.0,
-      subst (AreNumbersAt c.loop-word.at) (ap (λ (n : ℕ). drop n (ns ++ ks)) (all ∙ sym long)
-          ∙ drop-append_seam ns ks) k.1,
-    )
+    grind (arith, all_taken, drop-append_seam)

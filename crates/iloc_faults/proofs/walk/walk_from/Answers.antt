@@ -1,7 +1,6 @@
-use Rattle.std.proofs.Common.{refl, sym, ◌∙◌}
+use Rattle.std.proofs.Common.{arith, refl, sym, ◌∙◌}
 use Rattle.std.proofs.lemmas.List.{length-take-le}
-use Rattle.iloc_faults.proofs.Walks.{walk_stops, walk_on, walk_all, all_good, all_short}
-use Rattle.iloc_faults.proofs.Walks.{none_else}
+use Rattle.iloc_faults.proofs.Walks.{walk_stops, walk_on, walk_all, all_good, all_short, none_else}
 use Rattle.iloc_faults.proofs.walk.walk_from.Goals as goal
 
 pub pieces-init : goal.pieces-init
@@ -11,8 +10,7 @@ pub returns-in_default-clause-bad : goal.returns-in_default-clause-bad
 returns-in_default-clause-bad g c =
     let w = c.pieces.invariant in
     walk_stops w
-    (none_else c.args.mode c.pieces.at _ c.step.result (λ s. c.in_default.not-Some s)
-    (c.step.ensures w.variants w.seen w.read)) _ c.refusal.ensures refl c.end_of.ensures
+    (grind (arith, none_else)) _ c.refusal.ensures refl c.end_of.ensures
 
 pub next-at-requires-clause-short : goal.next-at-requires-clause-short
 next-at-requires-clause-short g c =

@@ -18,13 +18,7 @@ parts-preserved c =
     let fits : at + 16 ≤ c.args.count = omega (arith, c.parts-test.true) in
     let is = sixteen k (take (length from - at) (drop at from)) part (omega arith)
     (c.copy_all.ensures ∙ c.as_array.ensures ∙ c.first_in_lower_case-part.ensures) in
-    record {
-      within = fits;
-      room = same_room at k (at + 16) c.args.count from c.parts.to part few sum fits c.requires.bytes
-          c.parts.invariant.room is;
-      copied = copied_more at k (at + 16) c.args.count from c.parts.to part few sum fits c.requires.bytes
-          c.parts.invariant.room is c.parts.invariant.copied;
-    }
+    search (same_room, copied_more)
 
 pub returns : goal.returns
 returns c =

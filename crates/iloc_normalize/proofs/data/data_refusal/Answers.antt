@@ -1,3 +1,4 @@
+use Rattle.std.proofs.Common.{arith}
 use Rattle.iloc_normalize.proofs.Refusals.{read_accepted, read_refused, unbegun}
 use Rattle.iloc_normalize.proofs.data.data_refusal.Goals as goal
 
@@ -13,6 +14,4 @@ returns-in-Refused c =
     record { accepted = r.0; refused = r.1 }
 
 pub returns-in-Head : goal.returns-in-Head
-returns-in-Head c =
-    let r = read_accepted c.args.text.now c.read_data.result c.read_data.ensures c.in-Head.is in
-    record { accepted = r.0; refused = r.1 }
+returns-in-Head c = grind (arith, read_accepted)

@@ -1,15 +1,11 @@
 use Rattle.std.proofs.Common.{◌≡◌, ◌+◌, inl, inr, Bool, false, true, [], ◌∷◌, refl, sym, ◌∙◌, subst, arith}
-use Rattle.iloc_pieces.specs.Cursor.{piece_left, pieces_left}
+use Rattle.iloc_pieces.specs.Cursor.{piece_left}
 use Rattle.iloc_pieces.specs.declared.place.Cursor.{Cursor}
 use Rattle.iloc_pieces.proofs.CursorLemmas.{last_piece, length_piece, next_at, short_variant}
 use Rattle.iloc_outline.specs.Identifier.{IsAfterFront, IsFrontRead}
 use Rattle.iloc_outline.specs.Reading.{unless_end}
 use Rattle.iloc_outline.specs.declared.identifier.Front.{Front}
-use Rattle.iloc_normalize.specs.Data.{IsDataBehind}
-use Rattle.iloc_normalize.specs.declared.data.DataHead.{DataHead}
-use Rattle.iloc_normalize.proofs.Reading.{all_front, at_front, end_there, front_head}
-use Rattle.iloc_normalize.proofs.Reading.{pieces_there}
-use Rattle.iloc_normalize.proofs.Reading.{read_alone, read_on, varied_head, window_there, within_there}
+use Rattle.iloc_normalize.proofs.Reading.{all_front, at_front, end_there, front_head, pieces_there, read_alone, read_on, varied_head, window_there, within_there}
 use Rattle.iloc_normalize.proofs.data.read_data.Goals as goal
 use Rattle.iloc_normalize.proofs.data.read_data.Goals.{then-is_variant+else-is_last, else-is_variant}
 
@@ -31,26 +27,11 @@ returns-then-front c =
     read
     (follows l m f true read c.if-front.true) in
     read_alone w len c.requires.begins [] tt (omega arith) (record { front = f; end = f.end })
-    (front_head w len c.requires.inside c.requires.begins l e.rest e.at e.remaining e.window m f read []
-    cut) cut
+    (search front_head) cut
     (let a = read.inside in let b = e.at in let d = e.remaining in omega (arith, a, b, d))
 
 pub overflow_add-head : goal.overflow_add-head
-overflow_add-head c =
-    let l = c.cursor_in-cursor.result in
-    let e = c.cursor_in-cursor.ensures in
-    let f = c.read_front-front.result in
-    let read = c.read_front-front.ensures in
-    let m = c.read_front-front.new.cursor in
-    let word = sym c.is_variant.ensures ∙ c.if-is_variant.true in
-    omega (
-      arith,
-      within_there c.args.window.now c.args.len c.requires.inside c.requires.begins l e.rest e.at e.remaining
-          e.window m
-          f read
-          (follows l m f false read c.if-front.false) word,
-      c.requires.inside,
-    )
+overflow_add-head c = grind (arith, within_there, follows)
 
 pub returns-then-is_last : goal.returns-then-is_last
 returns-then-is_last c =
@@ -71,10 +52,8 @@ returns-then-is_last c =
           f;
       end = m.at + m.piece_length;
     })
-    (varied_head w len c.requires.inside c.requires.begins l e.rest e.at e.remaining e.window m f read
-    after word [] cut) cut
-    (within_there w len c.requires.inside c.requires.begins l e.rest e.at e.remaining e.window m f read
-    after word)
+    (search varied_head) cut
+    (grind arith)
 
 pub advance-requires-clause-short : goal.advance-requires-clause-short
 advance-requires-clause-short c = short_variant _ (sym c.is_variant.ensures ∙ c.if-is_variant.true)
@@ -111,19 +90,13 @@ returns c =
                 f;
             end = m.at + m.piece_length;
           })
-          (varied_head w len c.requires.inside c.requires.begins l e.rest e.at e.remaining e.window m f
-          read after word (pieces_left k) cut)
+          (search varied_head)
           k cut (n.window ∙ window) (omega (arith, next, size)) (omega (arith, stop, end)) (inr refl)
-          c.read_block.result (subst (λ (g : DataHead). IsDataBehind g k c.read_block.result) x.head-is
-          (subst (λ (q : Cursor). IsDataBehind c.if-is_variant.head q c.read_block.result) x.cursor-is
-          c.read_block.ensures))
+          c.read_block.result (grind arith)
       | else-is_variant x ↦
           let other = sym c.is_variant.ensures ∙ x.if-is_variant.false in
           read_on w len c.requires.begins [] tt (omega arith) (record { front = f; end = f.end })
-          (front_head w len c.requires.inside c.requires.begins l e.rest e.at e.remaining e.window m f
-          read (pieces_left m) there)
+          (search front_head)
           m there window at end (inl (refl, other))
-          c.read_block.result (subst (λ (g : DataHead). IsDataBehind g m c.read_block.result) x.head-is
-          (subst (λ (k : Cursor). IsDataBehind c.if-is_variant.head k c.read_block.result) x.cursor-is
-          c.read_block.ensures))
+          c.read_block.result (grind arith)
     ]

@@ -1,10 +1,9 @@
-use Rattle.std.proofs.Common.{◌≡◌, ◌+◌, ◌-◌, ℕ, Option, IfSome, subst, take, drop, length, sym, ap, ◌∙◌}
-use Rattle.std.proofs.Common.{arith}
+use Rattle.std.proofs.Common.{◌≡◌, ◌+◌, ◌-◌, ℕ, take, drop, length, sym, ap, ◌∙◌, arith}
 use Rattle.std.specs.Cmp.Lexicographic.{pointwise, texts_ties}
 use Rattle.std.specs.Prelude.{nat_eq}
 use Rattle.std.proofs.lemmas.Bool.{false_from_ne_true}
 use Rattle.std.proofs.lemmas.List.{length-drop, length-take-le}
-use Rattle.iloc_spec_grammar.specs.Syntax.{Text, lower}
+use Rattle.iloc_spec_grammar.specs.Syntax.{lower}
 use Rattle.iloc_spec_grammar.proofs.MapLaws.{same_is}
 use Rattle.iloc_spec_grammar.proofs.WordsLaws.{length-lower}
 use Rattle.iloc_spec_parts.specs.DataLocales.{whole}
@@ -35,10 +34,9 @@ returns c =
     let same = c.if-value.false in
     let size : from + 4 - from ≡ v.len - v.region = omega arith in
     let piece : c.unwrap-suffix.result ≡ take (from + 4 - from) (drop from w) =
-    subst (λ (o : Option Text). IfSome o (λ p. p ≡ take (from + 4 - from)
-    (drop from w))) c.unwrap-suffix.ensures c.of.ensures.short in
+    grind arith in
     let other : c.unwrap.result ≡ whole =
-    subst (λ (o : Option Text). IfSome o (λ p. p ≡ whole)) c.unwrap.ensures c.of-2.ensures.short in
+    grind arith in
     let low = c.to_ascii_lowercase.ensures ∙ ap lower (piece ∙ ap (λ (n : ℕ). take n (drop from w)) size) in
     c.eq.ensures ∙ (λ j. pointwise nat_eq (low j) (other j))
     ∙ texts_ties (lower (bytes_at w from (v.len - v.region))) whole

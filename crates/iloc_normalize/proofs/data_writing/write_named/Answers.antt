@@ -1,12 +1,9 @@
-use Rattle.std.proofs.Common.{◌≡◌, ◌-◌, length, Option, IfSome, inl, inr, refl, subst, take, drop, ap, ◌∙◌}
+use Rattle.std.proofs.Common.{arith, ◌≡◌, ◌-◌, length, inl, inr, refl, take, drop, ap, ◌∙◌}
 use Rattle.std.specs.Cmp.Lexicographic.{texts_ties}
-use Rattle.iloc_spec_grammar.specs.Syntax.{Text, is_same, upper}
+use Rattle.iloc_spec_grammar.specs.Syntax.{is_same, upper}
 use Rattle.iloc_normalize.proofs.Named.{put_all, put_head, put_part, put_whole}
 use Rattle.iloc_normalize.proofs.data_writing.write_named.Goals as goal
-use Rattle.iloc_normalize.proofs.data_writing.write_named.Goals.{
-  then-not-is_same-via-then-not-is_same,
-  then-not-is_same-via-else-not-is_same+then-is_whole-2,
-}
+use Rattle.iloc_normalize.proofs.data_writing.write_named.Goals.{then-not-is_same-via-then-not-is_same, then-not-is_same-via-else-not-is_same+then-is_whole-2}
 
 pub returns-then-is_whole-clause-put : goal.returns-then-is_whole-clause-put
 returns-then-is_whole-clause-put c =
@@ -35,8 +32,7 @@ returns-then-not-is_same-clause-put c =
     let front = c.args.head.now.front.end in
     let v = c.args.value.now in
     let piece : c.unwrap.result ≡ take (front - start) (drop start w) =
-    subst (λ (o : Option Text). IfSome o (λ p. p ≡ take (front - start)
-    (drop start w))) c.unwrap.ensures c.of.ensures.short in
+    grind arith in
     let agrees = c.eq-is_same.ensures ∙ texts_ties c.to_ascii_uppercase-region.result c.region_of.result
     ∙ ap (is_same c.to_ascii_uppercase-region.result) c.region_of.ensures in
     let found = c.region_start-start.ensures.start x.written x.head.words x.head.front in
@@ -64,8 +60,7 @@ returns-clause-put c =
     let front = c.args.head.now.front.end in
     let v = c.args.value.now in
     let piece : c.unwrap.result ≡ take (front - start) (drop start w) =
-    subst (λ (o : Option Text). IfSome o (λ p. p ≡ take (front - start)
-    (drop start w))) c.unwrap.ensures c.of.ensures.short in
+    grind arith in
     let agrees = c.eq-is_same.ensures ∙ texts_ties c.to_ascii_uppercase-region.result c.region_of.result
     ∙ ap (is_same c.to_ascii_uppercase-region.result) c.region_of.ensures in
     put_all w (length c.args.text.bytes.now - 16) c.args.head.now v d x start

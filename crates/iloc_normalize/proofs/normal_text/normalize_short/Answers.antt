@@ -1,44 +1,22 @@
-use Rattle.std.proofs.Common.{sym, subst, ◌∙◌, true≢false, IfSome}
-use Rattle.std.specs.Str.{IsUtf8}
-use Rattle.iloc_spec_grammar.specs.Syntax.{Text, languages}
+use Rattle.std.proofs.Common.{arith, sym, subst, ◌∙◌, true≢false, IfSome}
+use Rattle.iloc_spec_grammar.specs.Syntax.{Text}
 use Rattle.iloc_pieces.specs.Normal.{IsPlainText}
-use Rattle.iloc_pieces.specs.Plain.{value_of}
-use Rattle.iloc_normalize.specs.Modes.{IsNormalText}
 use Rattle.iloc_normalize.specs.NormalTexts.{IsNormalizedAs}
 use Rattle.iloc_normalize.proofs.AsciiLemmas.{identifier_utf8}
 use Rattle.iloc_normalize.proofs.PlainAnswers.{plain_normal}
 use Rattle.iloc_normalize.proofs.normal_text.normalize_short.Goals as goal
 
 pub from_utf8_unchecked-requires : goal.from_utf8_unchecked-requires
-from_utf8_unchecked-requires g c =
-    let h = subst (λ (t : Text). IsPlainText t c.in-Some.text) c.load-lanes.ensures c.in-Some.ensures in
-    subst IsUtf8 (sym (h.exactly.0 c.if-text.true))
-    (identifier_utf8 (value_of c.in-Some.text.plain) h.plain.value)
+from_utf8_unchecked-requires g c = grind (arith, identifier_utf8)
 
 pub own_front-requires-clause-utf8 : goal.own_front-requires-clause-utf8
-own_front-requires-clause-utf8 g c =
-    let h = c.in-Some.ensures in
-    subst IsUtf8 (sym h.plain.words.normal) (identifier_utf8 (value_of c.in-Some.text.plain) h.plain.value)
+own_front-requires-clause-utf8 g c = grind (arith, identifier_utf8)
 
 pub returns-then-text-clause-normal : goal.returns-then-text-clause-normal
-returns-then-text-clause-normal g c =
-    let h = subst (λ (t : Text). IsPlainText t c.in-Some.text) c.load-lanes.ensures c.in-Some.ensures in
-    let same = c.from_utf8_unchecked.ensures ∙ h.exactly.0 c.if-text.true in
-    λ mode. (
-      subst (IsNormalText languages mode c.args.input.now) (sym same)
-          (plain_normal mode c.args.input.now c.in-Some.text.plain h.plain),
-      (λ _. sym c.from_utf8_unchecked.ensures, λ _. tt),
-    )
+returns-then-text-clause-normal g c = grind (arith, plain_normal)
 
 pub returns-in-Ok-clause-normal : goal.returns-in-Ok-clause-normal
-returns-in-Ok-clause-normal g c =
-    let h = subst (λ (t : Text). IsPlainText t c.in-Some.text) c.load-lanes.ensures c.in-Some.ensures in
-    let owned = c.in-Ok.ensures.text ∙ h.plain.words.normal in
-    λ mode. (
-      subst (IsNormalText languages mode c.args.input.now) (sym owned)
-          (plain_normal mode c.args.input.now c.in-Some.text.plain h.plain),
-      (λ l. absurd l, λ e. absurd (true≢false (sym (h.exactly.1 (e ∙ owned)) ∙ c.if-text.false))),
-    )
+returns-in-Ok-clause-normal g c = grind (arith, plain_normal)
 
 pub returns-in-Err-clause-normal : goal.returns-in-Err-clause-normal
 returns-in-Err-clause-normal g c =

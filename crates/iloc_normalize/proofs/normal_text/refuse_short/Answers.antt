@@ -1,8 +1,6 @@
-use Rattle.std.proofs.Common.{take}
+use Rattle.std.proofs.Common.{arith}
 use Rattle.iloc_normalize.proofs.FrontAnswers.{no_language_refused}
 use Rattle.iloc_normalize.proofs.normal_text.refuse_short.Goals as goal
 
 pub returns-clause-normal : goal.returns-clause-normal
-returns-clause-normal c =
-    λ mode. no_language_refused mode (take c.args.len c.args.v)
-    (c.lanes_begin_with_language.ensures c.if-lanes_begin_with_language.false)
+returns-clause-normal c = grind (arith, no_language_refused)

@@ -1,4 +1,4 @@
-use Rattle.std.proofs.Common.{inr, refl, sym, ◌∙◌, subst}
+use Rattle.std.proofs.Common.{arith, inr, subst}
 use Rattle.iloc_pieces.specs.Cursor.{piece_left}
 use Rattle.iloc_pieces.proofs.CursorLemmas.{length_piece, short_attribute}
 use Rattle.iloc_normalize.specs.Subdivisions.{EndsRegion}
@@ -14,13 +14,4 @@ returns-then-region-eq0 c =
     (shape_there m word))))
 
 pub returns : goal.returns
-returns c =
-    let m = c.args.word in
-    let word = c.requires.word in (
-      sym c.is_sd.ensures ∙ c.if-not-is_sd.false,
-      refl,
-      length_piece m (short_attribute (piece_left m) word),
-      named_there m word c.requires.other c.region_len-region.result c.if-region-eq0.false
-          (c.region_len-region.ensures (piece_left m) (all_there m word) (long_there m word)
-          (shape_there m word)),
-    )
+returns c = grind (arith, length_piece, short_attribute, named_there, all_there, long_there, shape_there)

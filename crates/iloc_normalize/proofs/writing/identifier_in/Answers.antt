@@ -1,17 +1,14 @@
-use Rattle.std.proofs.Common.{◌≡◌, ℕ, length, length-take-le, sym, subst, take, arith}
+use Rattle.std.proofs.Common.{◌≡◌, ℕ, length, length-take-le, subst, take, arith}
 use Rattle.iloc_spec_grammar.specs.Syntax.{languages}
 use Rattle.iloc_spec_grammar.specs.Values.{identifier_text}
 use Rattle.iloc_spec_grammar.proofs.AnySteps.{length-identifier_means}
-use Rattle.iloc_outline.specs.Outlines.{BeginsWithLanguage}
 use Rattle.iloc_normalize.specs.Answered.{HasRefusal, IsNormalWritten}
 use Rattle.iloc_normalize.specs.declared.Mode.TheVariants.{Langid}
 use Rattle.iloc_normalize.specs.declared.writing.Written.TheVariants.{Normal}
 use Rattle.iloc_normalize.proofs.writing.identifier_in.Goals as goal
 
 pub outline_identifier-requires-clause-begins : goal.outline_identifier-requires-clause-begins
-outline_identifier-requires-clause-begins g c =
-    subst (λ (m : ℕ). BeginsWithLanguage (take m c.args.text.bytes.now)) (sym c.len-len.ensures)
-    c.requires.begins
+outline_identifier-requires-clause-begins g c = grind arith
 
 pub copy_outline-requires-clause-gives : goal.copy_outline-requires-clause-gives
 copy_outline-requires-clause-gives g c =
@@ -34,9 +31,7 @@ returns-in-Normal-clause-written g c =
     )
 
 pub returns-in-Refused-clause-written : goal.returns-in-Refused-clause-written
-returns-in-Refused-clause-written g c = c.refused.ensures.written Langid _ _
-    (subst (λ (k : ℕ). HasRefusal Langid (take k c.args.text.bytes.now) c.in-Refused.error) c.len-len.ensures
-    c.in-Refused.ensures.outlined)
+returns-in-Refused-clause-written g c = c.refused.ensures.written Langid _ _ (grind arith)
 
 pub returns-in-Refused-clause-refused : goal.returns-in-Refused-clause-refused
 returns-in-Refused-clause-refused g c = λ e. absurd (c.refused.ensures.some Langid _

@@ -1,26 +1,16 @@
-use Rattle.std.proofs.Common.{◌≡◌, ℕ, length, length-take-le, sym, subst, take, arith}
-use Rattle.iloc_spec_grammar.specs.Syntax.{languages}
+use Rattle.std.proofs.Common.{◌≡◌, ℕ, length, length-take-le, subst, take, arith}
 use Rattle.iloc_spec_grammar.specs.Values.{text}
 use Rattle.iloc_spec_grammar.proofs.AnySteps.{shortest}
-use Rattle.iloc_outline.specs.Outlines.{BeginsWithLanguage}
 use Rattle.iloc_normalize.specs.Answered.{HasRefusal, IsNormalWritten}
 use Rattle.iloc_normalize.specs.declared.Mode.TheVariants.{Locale}
 use Rattle.iloc_normalize.specs.declared.writing.Written.TheVariants.{Normal}
 use Rattle.iloc_normalize.proofs.writing.locale_in.Goals as goal
 
 pub outline_locale-requires-clause-begins : goal.outline_locale-requires-clause-begins
-outline_locale-requires-clause-begins g c =
-    subst (λ (m : ℕ). BeginsWithLanguage (take m c.args.text.bytes.now)) (sym c.len-len.ensures)
-    c.requires.begins
+outline_locale-requires-clause-begins g c = grind arith
 
 pub copy_outline-requires-clause-gives : goal.copy_outline-requires-clause-gives
-copy_outline-requires-clause-gives g c =
-    let (M, m, s) = c.in-Normal.ensures.outlined in
-    record {
-      normal = text M;
-      gives = s;
-      few = shortest languages (take c.len-len.result c.args.text.bytes.now) M m;
-    }
+copy_outline-requires-clause-gives g c = let (M, m, s) = c.in-Normal.ensures.outlined in search shortest
 
 pub returns-in-Normal-clause-written : goal.returns-in-Normal-clause-written
 returns-in-Normal-clause-written g c =
@@ -36,9 +26,7 @@ returns-in-Normal-clause-written g c =
     )
 
 pub returns-in-Refused-clause-written : goal.returns-in-Refused-clause-written
-returns-in-Refused-clause-written g c = c.refused.ensures.written Locale _ _
-    (subst (λ (k : ℕ). HasRefusal Locale (take k c.args.text.bytes.now) c.in-Refused.error) c.len-len.ensures
-    c.in-Refused.ensures.outlined)
+returns-in-Refused-clause-written g c = c.refused.ensures.written Locale _ _ (grind arith)
 
 pub returns-in-Refused-clause-refused : goal.returns-in-Refused-clause-refused
 returns-in-Refused-clause-refused g c = λ e. absurd (c.refused.ensures.some Locale _

@@ -1,4 +1,4 @@
-use Rattle.std.proofs.Common.{◌≡◌, ◌<◌, take, drop, inl, inr, ◌∙◌, arith}
+use Rattle.std.proofs.Common.{◌≡◌, ◌<◌, take, drop, inl, inr, arith}
 use Rattle.std.proofs.Math.Logic.{∥∥₁_map}
 use Rattle.iloc_pieces.specs.Marks.{closed}
 use Rattle.iloc_pieces.specs.Shape.{shape_of}
@@ -15,12 +15,11 @@ invariant_of-result-2-clause-piece c = ∥∥₁_map c.requires.seen (λ s.
     let m = c.args.marks in
     let v = take s.known (closed (take c.args.remaining (drop c.args.at c.args.window.now))) in
     let some : 0 < m.ends = omega (arith, c.if-marks-eq0.false) in
-    let shape : c.if-marks-piece-ne0.shape ≡ shape_of (take (before v) v) = elim c.if-marks-piece-ne0.branch [
-      | then-marks-piece-ne0 w ↦ w.shape-is
-          ∙ odd_shape v m.ends s.marks.ends some m.odd s.marks.odd w.if-marks-piece-ne0.true
-      | else-marks-piece-ne0 w ↦
-          w.shape-is
-          ∙ piece_shape v m.ends s.marks.ends some m.odd m.others s.marks.odd s.marks.others
-          w.if-marks-piece-ne0.false
-    ] in
+    let shape : c.if-marks-piece-ne0.shape ≡ shape_of (take (before v) v) = grind (
+      arith,
+      then-marks-piece-ne0,
+      odd_shape,
+      else-marks-piece-ne0,
+      piece_shape,
+    ) in
     inl (short_piece s c.if-marks-eq0.false _ shape))

@@ -22,8 +22,7 @@ look-requires-clause-seen c =
     let IsSeen : Marks → Type 0 = λ m. ∥ AreMarksSeen after m ∥₁ in
     elim c.if-known-eq0.branch [
       | then-known-eq0 w ↦ subst IsSeen (sym w.marks-is) ∣ seen_known w.marks_at-marks.ensures ∣₁
-      | else-known-eq0 w ↦ subst IsSeen (sym w.marks-is)
-          (next_seen l r.short r.more c.after-known.result c.after-known.ensures w.if-known-eq0.false)
+      | else-known-eq0 w ↦ grind (arith, next_seen)
     ]
 
 pub returns : goal.returns

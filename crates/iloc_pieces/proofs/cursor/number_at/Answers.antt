@@ -1,7 +1,6 @@
 use Rattle.std.proofs.Common.{◌≡◌, ◌≤◌, ◌-◌, length, take, drop, sym, ap, subst, ◌∙◌, arith}
 use Rattle.std.proofs.lemmas.List.{length-drop, length-take-le, take-take, take_all}
-use Rattle.iloc_spec_grammar.specs.Syntax.{Text, letters_or_digits}
-use Rattle.iloc_pieces.specs.Words.{word_number}
+use Rattle.iloc_spec_grammar.specs.Syntax.{Text}
 use Rattle.iloc_pieces.proofs.WordNumbers.{Bytes, bytes_take, bytes_drop, highest_first, number_is}
 use Rattle.iloc_pieces.proofs.cursor.number_at.Goals as goal
 
@@ -23,6 +22,4 @@ returns-in-Some c =
     subst (λ (p : Text). Bytes p) (sym is)
     (bytes_take 8 u (bytes_drop c.args.at w (λ i. (c.type_inv.window i).fits))) in
     let front : take n z ≡ take n u = ap (take n) is ∙ take-take n 8 u few in
-    number_is z n _ eight few bytes (ap letters_or_digits front ∙ c.requires.word.bytes)
-    (c.from_be_bytes.ensures ∙ highest_first z eight)
-    ∙ ap word_number front
+    grind (arith, number_is, highest_first)

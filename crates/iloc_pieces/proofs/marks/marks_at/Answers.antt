@@ -1,7 +1,5 @@
-use Rattle.std.proofs.Common.{◌≡◌, ◌+◌, ◌≤◌, [], ◌∷◌, length, take, drop, sym, ap, ◌∙◌, subst, inl}
-use Rattle.std.proofs.Common.{inr, arith}
-use Rattle.std.proofs.lemmas.List.{length-append, length-drop, length-take-le, take-append-le, take-take}
-use Rattle.std.proofs.lemmas.List.{take_all}
+use Rattle.std.proofs.Common.{◌≡◌, ◌+◌, ◌≤◌, [], ◌∷◌, length, take, drop, sym, ap, ◌∙◌, subst, inl, arith}
+use Rattle.std.proofs.lemmas.List.{length-append, length-drop, length-take-le, take-append-le, take-take, take_all}
 use Rattle.iloc_pieces.specs.Marks.{AreMarks, closed}
 use Rattle.iloc_pieces.proofs.marks.marks_at.Goals as goal
 use Rattle.iloc_spec_grammar.specs.Syntax.{Text}
@@ -11,19 +9,12 @@ returns-then-left-lt16 c =
     let rest = take c.args.left (drop c.args.at c.args.window.now) in
     let v = c.load_at.result in
     let few : length rest ≡ c.args.left =
-    length-take-le c.args.left (drop c.args.at c.args.window.now)
-    (omega (arith, length-drop c.args.at c.args.window.now)) in
+    grind (arith, length-take-le, length-drop) in
     let long : length (closed rest) ≤ c.args.left + 1 = omega (arith, length-append rest (45 ∷ [])) in
     let same : take c.args.left v ≡ rest = c.load_at.ensures.front c.args.left (omega arith) (omega arith) in
     let all : closed (take c.args.left v) ≡ take (c.args.left + 1) (closed rest) =
     ap closed same ∙ sym (take_all (c.args.left + 1) (closed rest) long) in
-    record {
-      known = c.args.left + 1;
-      few = omega arith;
-      enough = inr long;
-      marks = subst (λ (t : Text). AreMarks t c.closed_at.result) all
-          (c.closed_at.ensures v (omega (arith, c.load_at.ensures.wide)) c.marks_of-marks.ensures);
-    }
+    grind arith
 
 pub returns-else-left-lt16 : goal.returns-else-left-lt16
 returns-else-left-lt16 c =

@@ -1,4 +1,4 @@
-use Rattle.std.proofs.Common.{take}
+use Rattle.std.proofs.Common.{arith}
 use Rattle.std.specs.Char.{is_ascii_alphabetic}
 use Rattle.std.proofs.lemmas.List.{length-take-le}
 use Rattle.iloc_pieces.specs.Run.{fails}
@@ -10,5 +10,4 @@ returns c =
     let w = c.args.window.now in
     run_is (fails is_ascii_alphabetic) is_ascii_alphabetic w c.before_marked.result c.requires
     (λ b. twice (is_ascii_alphabetic b))
-    (c.before_marked.ensures (fails is_ascii_alphabetic) (take 16 w) (length-take-le 16 w c.requires)
-    c.no_letters_in.ensures)
+    (grind (arith, length-take-le))

@@ -1,3 +1,4 @@
+use Rattle.std.proofs.Common.{arith}
 use Rattle.std.proofs.Common.{◌+◌, [], ◌++◌, refl, ◌∙◌, append_assoc}
 use Rattle.iloc_writeable.proofs.WritingLemmas.{Writes-last, Writes-stopped}
 use Rattle.iloc_expected.specs.Words.{after_first, kind_words, named_from}
@@ -9,24 +10,20 @@ returns-in_err-write_str g t c =
     Writes-stopped g.met.S.Sink.took_then_failed g.met.S.Sink.failed_of_more _ _ _ _ []
     c.before_next.result.now
     (kind_words c.in-Some.kind ++ after_first (named_from c.args.self (c.number-later.result + 1))) _ _
-    (rest_is c.args.self c.in-Some.kind c.args.number c.number-later.result _ _ c.number-later.ensures.number
-    c.in-Some.ensures.some.2 c.before_next.ensures refl)
+    (grind (arith, rest_is))
     (g.met.S.Sink.took_nothing _) c.in_err-write_str.ensures c.from_residual.ensures.1
 
 pub returns-in_err-write_str-2 : goal.returns-in_err-write_str-2
 returns-in_err-write_str-2 g t c =
     Writes-stopped g.met.S.Sink.took_then_failed g.met.S.Sink.failed_of_more _ _ _ _ c.before_next.result.now
     c.words.result.now (after_first (named_from c.args.self (c.number-later.result + 1))) _ _
-    (rest_is c.args.self c.in-Some.kind c.args.number c.number-later.result _ _ c.number-later.ensures.number
-    c.in-Some.ensures.some.2 c.before_next.ensures c.words.ensures)
+    (grind (arith, rest_is))
     c.in_ok-write_str.ensures c.in_err-write_str-2.ensures c.from_residual-in_err-write_str-2.ensures.1
 
 pub returns : goal.returns
 returns g t c =
     Writes-last g.met.S.Sink.took_then_took g.met.S.Sink.took_then_failed _ _ _
     (c.before_next.result.now ++ c.words.result.now) _ _ _
-    (append_assoc c.before_next.result.now c.words.result.now _
-    ∙ rest_is c.args.self c.in-Some.kind c.args.number c.number-later.result _ _ c.number-later.ensures.number
-    c.in-Some.ensures.some.2 c.before_next.ensures c.words.ensures)
+    (grind (arith, append_assoc, rest_is))
     (g.met.S.Sink.took_then_took _ _ _ _ _ c.in_ok-write_str.ensures c.in_ok-write_str-2.ensures)
     c.write_rest.ensures

@@ -1,3 +1,4 @@
+use Rattle.std.proofs.Common.{arith}
 use Rattle.std.proofs.Common.{◌+◌, [], refl}
 use Rattle.iloc_writeable.proofs.WritingLemmas.{Writes-last, Writes-stopped}
 use Rattle.iloc_expected.specs.Kinds.{kind_bit}
@@ -13,7 +14,4 @@ returns-in_err-write_str g c =
     (g.met.S.Sink.took_nothing _) c.in_err-write_str.ensures c.from_residual.ensures.1
 
 pub returns : goal.returns
-returns g c =
-    Writes-last g.met.S.Sink.took_then_took g.met.S.Sink.took_then_failed _ _ _ _ _ _ _
-    (whole_is c.args.self.now c.in-Some.kind _ _ c.number.ensures.number c.in-Some.ensures.some.2
-    c.words.ensures) c.in_ok-write_str.ensures c.write_rest.ensures
+returns g c = grind (arith, Writes-last, whole_is)
