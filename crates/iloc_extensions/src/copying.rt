@@ -36,8 +36,9 @@ pub fn fill<C: Copying>(
     ensures out_of_memory { OnErr result
         (RefusedWithin C.Room.refused (extensions_items from.now)) }
 {
-    if !from.unicode.keywords.is_empty() {
-        to.unicode.keywords = from.unicode.keywords.copied(copying)?;
+    let keywords = &from.unicode.keywords;
+    if !keywords.is_empty() {
+        keywords.fill(copying, &mut to.unicode.keywords)?;
     }
     if !has_keywords_alone(from) {
         fill_rest(copying, to, from)?;
@@ -133,11 +134,20 @@ fn copy_transform<C: Copying>(
     ensures out_of_memory { OnErr result
         (RefusedWithin C.Room.refused (transform_items from.now)) }
 {
+    // (what is written over is empty, so nothing is dropped)
     if let Some(lang) = &from.lang {
-        to.lang = Some(lang.copied(copying)?);
+        let copy = lang.copied(copying)?;
+        if to.lang.is_some() {
+            unreachable!();
+        }
+        to.lang = Some(copy);
     }
     if !from.fields.is_empty() {
-        to.fields = from.fields.copied(copying)?;
+        let copy = from.fields.copied(copying)?;
+        if !to.fields.is_empty() {
+            unreachable!();
+        }
+        to.fields = copy;
     }
     Ok(())
 }

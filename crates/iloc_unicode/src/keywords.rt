@@ -286,6 +286,21 @@ impl Keywords {
         *self = Keywords::new_single(key, value);
     }
 
+    /// Copies the pairs over an empty map: returned by value they would be moved twice more. Refusal: `AllocError`, only if
+    /// room for at most as many items as there are in all was refused.
+    #[inline(always)]
+    pub fn fill<C: Copying>(&self, copying: C, to: &mut Keywords) -> Result<(), AllocError>
+        requires { to.old ≡ [] }
+        ensures value { OnOk result (to.new ≡ self.now) }
+        ensures out_of_memory { OnErr result
+            (RefusedWithin C.Room.refused (pairs_items length self.now)) }
+    {
+        if self.copy_single(to) {
+            return Ok(());
+        }
+        self.copy_onto(copying, to)
+    }
+
     // Copies the only pair over another map, if its value is one subtag. Else it returns `false`, and nothing changes.
     #[inline(always)]
     fn copy_single(&self, to: &mut Keywords) -> bool
@@ -301,10 +316,34 @@ impl Keywords {
         false
     }
 
+    // Copies the only pair over another map, if its value has at most one subtag. Else it returns `false`, and nothing
+    // changes. At one subtag it takes two instructions more than `copy_single`.
+    #[inline(always)]
+    pub(crate) fn copy_short(&self, to: &mut Keywords) -> bool
+        ensures copied { IsTrue result → to.new ≡ self.now }
+        ensures kept { result ≡ false → to.new ≡ to.old }
+    {
+        if let [(key, value)] = self.as_slice() {
+            if let Some(single) = copy_of_single(value) {
+                to.put_first(*key, single);
+                return true;
+            }
+            if value.is_empty() {
+                to.put_first(*key, Value::new_empty());
+                return true;
+            }
+        }
+        false
+    }
+
     // Copies the pairs over an empty map. It stands apart, so that a key with one subtag pays nothing for it. Each case
     // writes the copy itself: joined first it would be moved once more.
     #[inline(never)]
-    fn copy_onto<C: Copying>(&self, copying: C, to: &mut Keywords) -> Result<(), AllocError>
+    pub(crate) fn copy_onto<C: Copying>(
+        &self,
+        copying: C,
+        to: &mut Keywords,
+    ) -> Result<(), AllocError>
         requires { to.old ≡ [] }
         ensures value { OnOk result (to.new ≡ self.now) }
         ensures out_of_memory { OnErr result
@@ -312,17 +351,27 @@ impl Keywords {
     {
         match self.as_slice() {
             [] => {}
-            [(key, value)] => *to = Keywords::new_single(*key, value.copied(copying)?),
+            [(key, value)] => {
+                to.write(Keywords::new_single(*key, value.copied(copying)?));
+            }
             _ => {
                 let map = self.map.copied(copying)?;
-                // (so nothing is dropped)
-                if !to.is_empty() {
-                    unreachable!();
-                }
-                *to = Keywords { map };
+                to.write(Keywords { map });
             }
         }
         Ok(())
+    }
+
+    // Writes a map over an empty one, of which nothing is dropped.
+    #[inline(always)]
+    fn write(&mut self, map: Keywords)
+        requires { self.old ≡ [] }
+        ensures { self.new ≡ map }
+    {
+        if !self.is_empty() {
+            unreachable!();
+        }
+        *self = map;
     }
 
     // Sets the value of a key that isn't there; else nothing changes.
@@ -595,9 +644,7 @@ impl Copied for Keywords {
     #[inline(always)]
     fn copied<C: Copying>(&self, copying: C) -> Result<Self, AllocError> {
         let mut copy = Keywords::new();
-        if !self.copy_single(&mut copy) {
-            self.copy_onto(copying, &mut copy)?;
-        }
+        self.fill(copying, &mut copy)?;
         Ok(copy)
     }
 }

@@ -223,8 +223,12 @@ impl Copied for Unicode {
 
     #[inline(always)]
     fn copied<C: Copying>(&self, copying: C) -> Result<Self, AllocError> {
+        let mut keywords = Keywords::new();
+        if !self.keywords.copy_short(&mut keywords) {
+            self.keywords.copy_onto(copying, &mut keywords)?;
+        }
         Ok(Unicode {
-            keywords: self.keywords.copied(copying)?,
+            keywords,
             attributes: self.attributes.copied(copying)?,
         })
     }
