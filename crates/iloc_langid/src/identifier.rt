@@ -241,11 +241,20 @@ impl LanguageIdentifier {
     pub fn total_cmp(&self, other: &Self) -> Ordering
         ensures { result ≡ identifier_cmp (value_of self.now) (value_of other.now) }
     {
-        self.language
-            .cmp(&other.language)
-            .then_with(|| self.script.cmp(&other.script))
-            .then_with(|| self.region.cmp(&other.region))
-            .then_with(|| self.variants.cmp(&other.variants))
+        // (each order is asked at once, which spares its number)
+        let by_language = self.language.cmp(&other.language);
+        if by_language.is_ne() {
+            return by_language;
+        }
+        let by_script = self.script.cmp(&other.script);
+        if by_script.is_ne() {
+            return by_script;
+        }
+        let by_region = self.region.cmp(&other.region);
+        if by_region.is_ne() {
+            return by_region;
+        }
+        self.variants.cmp(&other.variants)
     }
 
     // Looks at each subtag, so that all are known to be normal.

@@ -49,6 +49,7 @@ impl<K: Drop, V: Drop> Store<K, V> for ShortBoxSlice<(K, V)> {
         self.lm_insert_in(alloc, index, key, value)
     }
 
+    #[inline(always)]
     fn lm_remove(&mut self, index: usize) -> (K, V) {
         self.remove(index)
     }

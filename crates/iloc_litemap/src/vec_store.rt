@@ -1,8 +1,9 @@
 //! A `Vec` of pairs.
-ghost use Rattle.std.specs.Prelude.{◌≡◌};
+ghost use Rattle.std.specs.Prelude.{◌≡◌, ◌≤◌, length, insert, OnOk, OnErr};
 ghost use Rattle.std.specs.Vec.Iter.{into_iter_items};
 ghost use Rattle.iloc_litemap.specs.Calls.{CalledAtKeyValue};
 
+use crate::room::insert_within;
 use crate::store::{CopyingStore, GrowingStore, Store};
 use iloc_copying::{Copied, Copying, clones_of, copies_of, moved};
 use iloc_memory::{Memory, push};
@@ -44,7 +45,11 @@ impl<K: Drop, V: Drop> Store<K, V> for Vec<(K, V)> {
         key: K,
         value: V,
     ) -> Result<(), AllocError> {
-        self.lm_insert_in(alloc, index, key, value)
+        if self.len() < self.capacity() {
+            insert_within(self, index, (key, value));
+            return Ok(());
+        }
+        insert_growing(alloc, self, index, key, value)
     }
 
     #[inline(never)]
@@ -99,6 +104,22 @@ impl<K: Drop, V: Drop> Store<K, V> for Vec<(K, V)> {
     ghost takes_first = { λ s r t h. vec_takes_first s r t h };
 
     ghost pairs_with_value = { λ s i w. vec_pairs_with_value s i w };
+}
+
+// Puts a pair into a list without room. It stands apart, so that an insertion within room keeps fewer registers.
+#[inline(never)]
+fn insert_growing<M: Memory, K: Drop, V: Drop>(
+    memory: M,
+    pairs: &mut Vec<(K, V)>,
+    index: usize,
+    key: K,
+    value: V,
+) -> Result<(), AllocError>
+    requires { index ≤ length pairs.old.items }
+    ensures ok { OnOk result (pairs.new.items ≡ insert pairs.old.items index (key, value)) }
+    ensures err { OnErr result (pairs.new.items ≡ pairs.old.items) }
+{
+    pairs.lm_insert_in(memory, index, key, value)
 }
 
 impl<K: Drop, V: Drop> GrowingStore<K, V> for Vec<(K, V)> {

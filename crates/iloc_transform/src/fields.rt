@@ -6,6 +6,7 @@ ghost use Rattle.std.specs.Prelude.{
   ℕ,
   List,
   [],
+  ◌∷◌,
   true,
   length,
   reverse,
@@ -176,11 +177,31 @@ impl Fields {
     {
         let _ = key.as_str();
         let _ = value.as_slice();
+        // A first field needs no place.
+        if self.is_empty() {
+            self.put_first(memory, key, value)?;
+            return Ok(None);
+        }
         if let Some(old) = self.map.get_mut(&key) {
             return Ok(Some(mem::replace(old, value)));
         }
         self.insert(memory, key, value)?;
         Ok(None)
+    }
+
+    // Leaves this one field, with room for no more.
+    #[inline(never)]
+    fn put_first<M: Memory>(&mut self, memory: M, key: Key, value: Value) -> Result<(), AllocError>
+        ensures ok { OnOk result (self.new ≡ (key, value) ∷ []) }
+        ensures err { OnErr result (self.new ≡ self.old) }
+        ensures out_of_memory { OnErr result (RefusedWithin M.refused (length self.old + 1)) }
+    {
+        let _ = key.as_str();
+        let _ = value.as_slice();
+        let mut only = memory.with_capacity(1)?;
+        only.push_reserved((key, value));
+        self.map = LiteMap::from_sorted_store_unchecked(only);
+        Ok(())
     }
 
     // Sets the value of a key. It stands apart, so that `set` pays nothing for it where the key is there.
