@@ -1,7 +1,6 @@
 -- From what the readers answer to what a caller finds.
 use Rattle.std.specs.Prelude.{ℤ, MatchResult, ⊤}
-use Rattle.std.proofs.Common.{◌≡◌, ℕ, Bool, true, false, IsTrue, ◌↔◌, ◌⊎◌, Result, Ok, Err, inl}
-use Rattle.std.proofs.Common.{inr, refl, sym, ap, ◌∙◌, subst, true≢false}
+use Rattle.std.proofs.Common.{◌≡◌, ℕ, Bool, true, false, IsTrue, ◌↔◌, ◌⊎◌, Result, Ok, Err, inl, inr, refl, sym, ap, ◌∙◌, subst, true≢false}
 use Rattle.std.specs.Int.{from_bool}
 use Rattle.std.specs.Ordering.{is_eq, nat_cmp}
 use Rattle.std.specs.Cmp.Lexicographic.{slice_cmp}
@@ -35,17 +34,7 @@ use Rattle.iloc_data.specs.Reads.{DataTextReads}
 use Rattle.iloc_data.specs.declared.data_locale.DataLocale as data_types
 use Rattle.iloc_normalize.specs.declared.Mode.{Mode}
 use Rattle.iloc_normalize.specs.declared.Mode.TheVariants.{Langid, Locale, Data}
-use Rattle.iloc_calls.specs.Answers.{
-  CallWantsMemory,
-  JudgedAs,
-  ComparesTo,
-  WritesOrder,
-  OrdersTo,
-  MeanSame,
-  RefusedAnswers,
-  SaysSame,
-  order_number,
-}
+use Rattle.iloc_calls.specs.Answers.{CallWantsMemory, JudgedAs, ComparesTo, WritesOrder, OrdersTo, MeanSame, RefusedAnswers, SaysSame, order_number}
 use Rattle.iloc_calls.specs.Numbers.{status_of}
 use Rattle.iloc_calls.specs.declared.status.Status.{Status}
 use Rattle.iloc_calls.specs.declared.status.Status.TheVariants.{Done, OutOfMemory}

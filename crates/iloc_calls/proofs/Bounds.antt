@@ -11,17 +11,7 @@ use Rattle.iloc_writeable.specs.Hints.{saturated}
 use Rattle.iloc_normalize.specs.declared.Mode.{Mode}
 use Rattle.iloc_normalize.specs.declared.Mode.TheVariants.{Langid, Locale, Data}
 use Rattle.iloc_calls.specs.declared.status.Status.{Status}
-use Rattle.iloc_calls.specs.declared.status.Status.TheVariants.{
-  Done,
-  InvalidLanguage,
-  InvalidSubtag,
-  InvalidExtension,
-  DuplicatedExtension,
-  OutOfMemory,
-  BufferTooSmall,
-  UnknownNumber,
-  NotFound,
-}
+use Rattle.iloc_calls.specs.declared.status.Status.TheVariants.{Done, InvalidLanguage, InvalidSubtag, InvalidExtension, DuplicatedExtension, OutOfMemory, BufferTooSmall, UnknownNumber, NotFound}
 use Rattle.iloc_calls.specs.Answers.{NormalizesTo, growth}
 use Rattle.iloc_calls.proofs.Lengths.{data_text_fits}
 use Rattle.iloc_calls.proofs.AnswerLemmas.{text_of_identifier, text_of_locale, text_of_parts}

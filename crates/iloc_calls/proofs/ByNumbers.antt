@@ -5,17 +5,7 @@ use Rattle.iloc_normalize.specs.declared.Mode.{Mode}
 use Rattle.iloc_normalize.specs.declared.Mode.TheVariants.{Langid, Locale, Data}
 use Rattle.iloc_calls.specs.Numbers.{ByMode, ByNumber, ByStatus, mode_number, number_of}
 use Rattle.iloc_calls.specs.declared.status.Status.{Status}
-use Rattle.iloc_calls.specs.declared.status.Status.TheVariants.{
-  Done,
-  InvalidLanguage,
-  InvalidSubtag,
-  InvalidExtension,
-  DuplicatedExtension,
-  OutOfMemory,
-  BufferTooSmall,
-  UnknownNumber,
-  NotFound,
-}
+use Rattle.iloc_calls.specs.declared.status.Status.TheVariants.{Done, InvalidLanguage, InvalidSubtag, InvalidExtension, DuplicatedExtension, OutOfMemory, BufferTooSmall, UnknownNumber, NotFound}
 
 -- the value that was found is the only one of that number, which is none above the last
 pub by_found : {X : Type 0} (number_of_value : X → ℕ) (last number : ℕ) (found : Option X) (x : X)

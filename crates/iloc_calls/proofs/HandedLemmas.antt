@@ -9,17 +9,7 @@ use Rattle.iloc_normalize.proofs.PlainAnswers.{plain_normal}
 use Rattle.iloc_normalize.specs.declared.Mode.{Mode}
 use Rattle.iloc_calls.specs.Answers.{HandsOut, NormalizesTo}
 use Rattle.iloc_calls.specs.declared.status.Status.{Status}
-use Rattle.iloc_calls.specs.declared.status.Status.TheVariants.{
-  Done,
-  InvalidLanguage,
-  InvalidSubtag,
-  InvalidExtension,
-  DuplicatedExtension,
-  OutOfMemory,
-  BufferTooSmall,
-  UnknownNumber,
-  NotFound,
-}
+use Rattle.iloc_calls.specs.declared.status.Status.TheVariants.{Done, InvalidLanguage, InvalidSubtag, InvalidExtension, DuplicatedExtension, OutOfMemory, BufferTooSmall, UnknownNumber, NotFound}
 use Rattle.iloc_normalize.specs.Modes.{IsNormalText}
 use Rattle.iloc_spec_grammar.specs.Syntax.{Text, languages}
 

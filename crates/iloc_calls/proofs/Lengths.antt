@@ -1,53 +1,9 @@
 -- How long the text of a data locale is: at most by a region and its hyphen longer than a text that means it.
-use Rattle.std.proofs.Common.{
-  ◌≡◌,
-  ℕ,
-  ◌+◌,
-  ◌≤◌,
-  Bool,
-  true,
-  false,
-  cond,
-  List,
-  [],
-  ◌∷◌,
-  ◌++◌,
-  length,
-  Option,
-  Some,
-  None,
-  IfSome,
-  Result,
-  Ok,
-  Err,
-  option_map,
-  option_and_then,
-  option_to_list,
-  codes,
-  refl,
-  sym,
-  ap,
-  ◌∙◌,
-  subst,
-  arith,
-  append-nil,
-  append_assoc,
-  length-append,
-}
+use Rattle.std.proofs.Common.{◌≡◌, ℕ, ◌+◌, ◌≤◌, Bool, true, false, cond, List, [], ◌∷◌, ◌++◌, length, Option, Some, None, IfSome, Result, Ok, Err, option_map, option_and_then, option_to_list, codes, refl, sym, ap, ◌∙◌, subst, arith, append-nil, append_assoc, length-append}
 use Rattle.std.specs.Result.{result_ok}
 use Rattle.std.proofs.lemmas.Bool.{cond_both}
 use Rattle.std.proofs.lemmas.Bool.Decides.{nat_tests}
-use Rattle.iloc_spec_grammar.specs.Syntax.{
-  Text,
-  join,
-  dashes,
-  Region,
-  languages,
-  is_word,
-  is_same,
-  is_true,
-  lower,
-}
+use Rattle.iloc_spec_grammar.specs.Syntax.{Text, join, dashes, Region, languages, is_word, is_same, is_true, lower}
 use Rattle.iloc_spec_grammar.specs.Values.{IsNormal, text, extensions_spelling}
 use Rattle.iloc_spec_grammar.proofs.AnySteps.{shortest}
 use Rattle.iloc_spec_grammar.proofs.MapLaws.{same_is}
@@ -58,19 +14,7 @@ use Rattle.iloc_spec_parts.proofs.SmallLaws.{small_means}
 use Rattle.iloc_spec_parts.proofs.SmallBack.{read_is_small_value}
 use Rattle.iloc_spec_parts.specs.Subdivisions.{Subdivision, subdivision, subdivision_text}
 use Rattle.iloc_spec_parts.proofs.Keys.{sd}
-use Rattle.iloc_spec_parts.specs.DataLocales.{
-  DataLocale,
-  DataMeans,
-  whole_region,
-  is_whole,
-  named_subdivision,
-  made_of,
-  agreed,
-  small_part,
-  subdivision_value,
-  subdivision_pieces,
-  data_text,
-}
+use Rattle.iloc_spec_parts.specs.DataLocales.{DataLocale, DataMeans, whole_region, is_whole, named_subdivision, made_of, agreed, small_part, subdivision_value, subdivision_pieces, data_text}
 use Rattle.iloc_spec_parts.proofs.SubdivisionLaws.{subdivision_back, read_is_subdivision, text_of_read}
 use Rattle.iloc_spec_parts.proofs.DataLaws.{whole_region_is}
 

@@ -1,14 +1,10 @@
 -- Cleaning changes nothing of a clean line.
-use Rattle.std.proofs.Common.{◌≡◌, ℕ, ◌-◌, Bool, true, false, ◌||◌, [], ◌∷◌, length, take, drop, refl, ap}
-use Rattle.std.proofs.Common.{◌∙◌, arith, append-nil}
+use Rattle.std.proofs.Common.{◌≡◌, ℕ, ◌-◌, Bool, true, false, ◌||◌, [], ◌∷◌, length, take, drop, refl, ap, ◌∙◌, arith, append-nil}
 use Rattle.std.specs.Bool.{◌==◌}
 use Rattle.std.specs.List.{AllByRecursion, position_or_len, before_first}
 use Rattle.std.proofs.lemmas.List.{take_all}
 use Rattle.iloc_spec_grammar.specs.Syntax.{Text}
-use Rattle.iloc_cleaning.specs.Cleaning.{IsClean, clean, clean_name, ends_base, from_first, hyphens, is_at}
-use Rattle.iloc_cleaning.specs.Cleaning.{modifier}
-use Rattle.iloc_cleaning.specs.Cleaning.{with_modifier, without_return, without_blanks, without_first}
-use Rattle.iloc_cleaning.specs.Cleaning.{without_last}
+use Rattle.iloc_cleaning.specs.Cleaning.{IsClean, clean, clean_name, ends_base, from_first, hyphens, is_at, modifier, with_modifier, without_return, without_blanks, without_first, without_last}
 
 -- of two tests, neither passes
 either_false : (a b : Bool) → (a || b) ≡ false → (a ≡ false) × (b ≡ false)

@@ -1,6 +1,5 @@
 -- What a search for a byte gives.
-use Rattle.std.proofs.Common.{◌≡◌, ℕ, ◌≤◌, Bool, List, [], ◌∷◌, length, arith, cond, Option, Some, None}
-use Rattle.std.proofs.Common.{unwrap_or, nat_lt}
+use Rattle.std.proofs.Common.{◌≡◌, ℕ, ◌≤◌, Bool, List, [], ◌∷◌, length, arith, cond, Option, Some, None, unwrap_or, nat_lt}
 use Rattle.std.specs.List.{position_or_len}
 use Rattle.std.proofs.lemmas.Grind.{common_steps}
 

@@ -1,6 +1,5 @@
 -- Cleaning makes no line longer.
-use Rattle.std.proofs.Common.{◌≡◌, ℕ, ◌+◌, ◌-◌, ◌<◌, ◌≤◌, Bool, true, false, zero, suc, [], ◌∷◌, ◌++◌}
-use Rattle.std.proofs.Common.{length, take, drop, refl, ap, sym, ◌∙◌, arith, codes, if◌then◌else◌, length-append}
+use Rattle.std.proofs.Common.{◌≡◌, ℕ, ◌+◌, ◌-◌, ◌<◌, ◌≤◌, Bool, true, false, zero, suc, [], ◌∷◌, ◌++◌, length, take, drop, refl, ap, sym, ◌∙◌, arith, codes, if◌then◌else◌, length-append}
 use Rattle.std.specs.Bool.{◌==◌}
 use Rattle.std.specs.List.{before_first, position_or_len, ends_with, prefix_len, suffix_len}
 use Rattle.std.specs.Str.{bytes_eq}
@@ -8,9 +7,7 @@ use Rattle.std.specs.Prelude.{nat_eq, ⊤}
 use Rattle.std.proofs.lemmas.List.{length-drop, length-map, length-take-le, take-append-drop}
 use Rattle.std.proofs.lemmas.Slice.Eq.{bytes_eq-Decides}
 use Rattle.iloc_spec_grammar.specs.Syntax.{Text}
-use Rattle.iloc_cleaning.specs.Cleaning.{clean, clean_name, ends_base, from_first, hyphens, is_at, is_blank}
-use Rattle.iloc_cleaning.specs.Cleaning.{is_separator, modifier, with_modifier, without_blanks, without_first}
-use Rattle.iloc_cleaning.specs.Cleaning.{without_return}
+use Rattle.iloc_cleaning.specs.Cleaning.{clean, clean_name, ends_base, from_first, hyphens, is_at, is_blank, is_separator, modifier, with_modifier, without_blanks, without_first, without_return}
 use Rattle.iloc_cleaning.specs.declared.modifier.Modifier.{Modifier}
 use Rattle.iloc_cleaning.specs.declared.modifier.Modifier.TheVariants.{Currency, Script, Variant, Other}
 use Rattle.iloc_cleaning.proofs.Finding.{position_or_len-le-length}

@@ -3,10 +3,7 @@ use Rattle.std.proofs.Common.{◌≡◌, Option, Result, Ok, Err, sym, option_ma
 use Rattle.std.specs.Result.{result_ok}
 use Rattle.iloc_keyword_types.specs.Reads.{Reads}
 use Rattle.iloc_word_list.specs.declared.errors.PreferencesParseError.{PreferencesParseError}
-use Rattle.iloc_word_list.specs.declared.errors.PreferencesParseError.TheVariants.{
-  InvalidKeywordValue,
-  OutOfMemory,
-}
+use Rattle.iloc_word_list.specs.declared.errors.PreferencesParseError.TheVariants.{InvalidKeywordValue, OutOfMemory}
 
 module _ {X V : Type 0} (stands : X → V) where
   pub what_is_read : (o : Option V) (r : Result X PreferencesParseError) → Reads stands o r →

@@ -1,6 +1,5 @@
 -- What a keyword that is there or not reads as.
-use Rattle.std.proofs.Common.{◌≡◌, true, List, [], ◌∷◌, Option, Some, None, ap, refl, is_some, is_none, ◌||◌}
-use Rattle.std.proofs.Common.{option_and_then, ◌==◌, ℕ, length, arith}
+use Rattle.std.proofs.Common.{◌≡◌, true, List, [], ◌∷◌, Option, Some, None, ap, refl, is_some, is_none, ◌||◌, option_and_then, ◌==◌, ℕ, length, arith}
 use Rattle.std.specs.FinMap.{find}
 use Rattle.std.proofs.lemmas.Bool.Decides.{nat_tests}
 use Rattle.iloc_spec_grammar.specs.Syntax.{Text, Fields, word_cmp}

@@ -1,7 +1,5 @@
 -- The fallback chain of data locales: one part fewer, the end of the chain, and what a parent lacks.
-use Rattle.std.proofs.Common.{◌≡◌, ℕ, zero, suc, ◌+◌, ◌≤◌, Bool, true, false, not, List, [], ◌∷◌, ◌++◌}
-use Rattle.std.proofs.Common.{length, refl, sym, ap, ◌∙◌, subst, arith, true≢false, Option, Some, None}
-use Rattle.std.proofs.Common.{option_map, option_to_list, inl, inr, append-nil, append_assoc, Result, Ok, Err}
+use Rattle.std.proofs.Common.{◌≡◌, ℕ, zero, suc, ◌+◌, ◌≤◌, Bool, true, false, not, List, [], ◌∷◌, ◌++◌, length, refl, sym, ap, ◌∙◌, subst, arith, true≢false, Option, Some, None, option_map, option_to_list, inl, inr, append-nil, append_assoc, Result, Ok, Err}
 use Rattle.std.specs.Prelude.{codes, IfSome, option_and_then, if◌then◌else◌}
 use Rattle.std.specs.Option.{is_some, option_or}
 use Rattle.std.specs.Result.{result_ok}
@@ -10,31 +8,11 @@ use Rattle.iloc_spec_grammar.specs.Meaning.{Fault}
 use Rattle.iloc_spec_grammar.specs.Values.{IsNormal}
 use Rattle.iloc_spec_grammar.proofs.MapLaws.{same_is}
 use Rattle.iloc_spec_parts.specs.Subdivisions.{Subdivision, subdivision}
-use Rattle.iloc_spec_parts.specs.DataLocales.{
-  DataLocale,
-  DataKey,
-  IsDataLocale,
-  data_key,
-  data_pieces,
-  is_whole,
-  whole,
-  whole_region,
-  named_subdivision,
-  region_part,
-  subdivision_keyword,
-  subdivision_pieces,
-}
+use Rattle.iloc_spec_parts.specs.DataLocales.{DataLocale, DataKey, IsDataLocale, data_key, data_pieces, is_whole, whole, whole_region, named_subdivision, region_part, subdivision_keyword, subdivision_pieces}
 use Rattle.iloc_spec_parts.proofs.SubdivisionLaws.{read_is_subdivision}
 use Rattle.iloc_langid.specs.Parents.{is_unknown_language, after_steps}
 use Rattle.iloc_data.specs.DataValue.{unknown_data}
-use Rattle.iloc_data.specs.DataParents.{
-  region_of,
-  with_whole_region,
-  data_parent,
-  data_part_count,
-  IsUnknownAfter,
-  LacksLastDataPart,
-}
+use Rattle.iloc_data.specs.DataParents.{region_of, with_whole_region, data_parent, data_part_count, IsUnknownAfter, LacksLastDataPart}
 use Rattle.iloc_langid.proofs.ParentLemmas.{known_language}
 
 -- a region is the same as a whole

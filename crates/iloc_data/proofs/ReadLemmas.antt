@@ -8,15 +8,7 @@ use Rattle.iloc_spec_grammar.proofs.RawLaws.{languages_table, narrow_in_wide}
 use Rattle.iloc_spec_parts.specs.Small.{locale_of_small}
 use Rattle.iloc_spec_parts.proofs.SmallLaws.{small_means}
 use Rattle.iloc_spec_parts.specs.DataLocales as parts
-use Rattle.iloc_spec_parts.specs.DataLocales.{
-  DataMeans,
-  HasDataFault,
-  not_small,
-  no_subdivision,
-  made_of,
-  small_part,
-  data_text,
-}
+use Rattle.iloc_spec_parts.specs.DataLocales.{DataMeans, HasDataFault, not_small, no_subdivision, made_of, small_part, data_text}
 use Rattle.iloc_spec_parts.proofs.DataLaws.{data_apart, one_data, one_data_fault, read_back}
 use Rattle.iloc_spec_parts.proofs.WiderData.{data_wider}
 use Rattle.iloc_spec_parts.specs.Preferences.{language_priority, preferences}

@@ -1,21 +1,10 @@
 -- Words that name the whole of a region, or nothing.
-use Rattle.std.proofs.Common.{◌≡◌, ℕ, ◌-◌, ◌≤◌, Bool, true, false, [], ◌∷◌, length, take, drop, Option}
-use Rattle.std.proofs.Common.{Some, None, refl, sym, ap, subst, ◌∙◌, arith, Err, nat_eq}
+use Rattle.std.proofs.Common.{◌≡◌, ℕ, ◌-◌, ◌≤◌, Bool, true, false, [], ◌∷◌, length, take, drop, Option, Some, None, refl, sym, ap, subst, ◌∙◌, arith, Err, nat_eq}
 use Rattle.std.specs.Prelude.{IfSome, if◌then◌else◌, option_and_then, ok_or}
 use Rattle.std.specs.Result.{result_ok}
 use Rattle.std.specs.Char.{is_ascii_alphabetic}
 use Rattle.std.proofs.lemmas.Bool.Decides.{nat_tests}
-use Rattle.iloc_spec_grammar.specs.Syntax.{
-  Text,
-  Region,
-  Subtag,
-  SubdivisionSuffix,
-  is_word,
-  word,
-  lower,
-  upper,
-  is_same,
-}
+use Rattle.iloc_spec_grammar.specs.Syntax.{Text, Region, Subtag, SubdivisionSuffix, is_word, word, lower, upper, is_same}
 use Rattle.iloc_spec_grammar.specs.Meaning.{InvalidSubtag, InvalidExtension}
 use Rattle.iloc_spec_parts.specs.Subdivisions.{Subdivision, both_words}
 use Rattle.iloc_spec_parts.specs.DataLocales.{whole, is_whole, named_subdivision}

@@ -1,6 +1,5 @@
 -- What may stand at the place of a fault.
-use Rattle.std.proofs.Common.{◌≡◌, ◌≢◌, inl, inr, ℕ, suc, ◌+◌, List, [], ◌∷◌, ◌++◌, length, take}
-use Rattle.std.proofs.Common.{refl, sym, ap, ◌∙◌, subst, append_assoc, append-nil, arith, take_all}
+use Rattle.std.proofs.Common.{◌≡◌, ◌≢◌, inl, inr, ℕ, suc, ◌+◌, List, [], ◌∷◌, ◌++◌, length, take, refl, sym, ap, ◌∙◌, subst, append_assoc, append-nil, arith, take_all}
 use Rattle.std.specs.List.{AllByRecursion}
 use Rattle.std.proofs.lemmas.List.Concat.{flat_map-append}
 use Rattle.std.proofs.Math.Seq.{take-append-add}
@@ -14,8 +13,7 @@ use Rattle.iloc_faults.specs.Places.{GoOn, StandsAtPiece, IsFaultPlace}
 use Rattle.iloc_faults.proofs.OnePlace.{fewer}
 use Rattle.iloc_expected.specs.declared.kinds.PieceKind.{PieceKind}
 use Rattle.iloc_expected.specs.declared.kinds.PieceKind.TheVariants as kinds
-use Rattle.iloc_expected.specs.Kinds.{Place, place_after, kind_at, identifier_kind, transform_kind}
-use Rattle.iloc_expected.specs.Kinds.{unicode_kind}
+use Rattle.iloc_expected.specs.Kinds.{Place, place_after, kind_at, identifier_kind, transform_kind, unicode_kind}
 use Rattle.iloc_expected.specs.Standing.{without_empty, pieces_before, MayStand}
 use Rattle.iloc_expected.proofs.Following.{by_test}
 use Rattle.iloc_expected.proofs.Walk.{front_free, without_end}

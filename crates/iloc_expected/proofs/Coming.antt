@@ -1,60 +1,22 @@
 -- A piece that comes next is of a kind that may come.
-use Rattle.std.proofs.Common.{◌≡◌, ◌≢◌, ℕ, Bool, true, false, List, [], length, slice_index}
-use Rattle.std.proofs.Common.{Some, refl, inl, inr, arith}
+use Rattle.std.proofs.Common.{◌≡◌, ◌≢◌, ℕ, Bool, true, false, List, [], length, slice_index, Some, refl, inl, inr, arith}
 use Rattle.std.specs.Char.{is_ascii_alphanumeric}
 use Rattle.std.proofs.lemmas.Bool.{cases_Bool, and_parts, not-true, false_from_ne_true}
 use Rattle.std.proofs.lemmas.Bool.Decides.{nat_tests}
-use Rattle.iloc_spec_grammar.specs.Syntax.{
-  Text,
-  code_t,
-  code_u,
-  code_x,
-  languages,
-  is_word,
-  IsWord,
-  is_one_byte,
-  is_other_singleton,
-  lower,
-  is_true,
-  UnicodeKey,
-  TransformKey,
-  Attribute,
-  Variant,
-}
+use Rattle.iloc_spec_grammar.specs.Syntax.{Text, code_t, code_u, code_x, languages, is_word, IsWord, is_one_byte, is_other_singleton, lower, is_true, UnicodeKey, TransformKey, Attribute, Variant}
 use Rattle.iloc_spec_grammar.specs.Syntax as grammar
-use Rattle.iloc_spec_grammar.proofs.WordsLaws.{
-  region_no_script,
-  variant_no_script,
-  variant_no_region,
-  length-unicode_key,
-  length-transform_key,
-}
+use Rattle.iloc_spec_grammar.proofs.WordsLaws.{region_no_script, variant_no_script, variant_no_region, length-unicode_key, length-transform_key}
 use Rattle.iloc_normalize.specs.declared.Mode.{Mode}
 use Rattle.iloc_faults.specs.declared.state.Part.{Part}
 use Rattle.iloc_faults.specs.declared.state.Part.TheVariants.{Start, Head, Transform, Source}
 use Rattle.iloc_faults.specs.declared.state.Stage.{Stage}
 use Rattle.iloc_faults.specs.declared.state.Stage.TheVariants.{Language, Script, Region}
-use Rattle.iloc_faults.specs.Next.{Reached, is_seen, is_new, takes_any, begins_block, block_next}
-use Rattle.iloc_faults.specs.Next.{after_script_next, after_region_next, word_next, inside_next, piece_next}
-use Rattle.iloc_faults.specs.Next.{next}
+use Rattle.iloc_faults.specs.Next.{Reached, is_seen, is_new, takes_any, begins_block, block_next, after_script_next, after_region_next, word_next, inside_next, piece_next, next}
 use Rattle.iloc_faults.specs.States.{reached}
 use Rattle.iloc_expected.specs.declared.kinds.PieceKind.TheVariants as kinds
 use Rattle.iloc_expected.specs.Kinds.{Place, kind_at, identifier_kind}
 use Rattle.iloc_expected.specs.Readings.{IsReadAt, may_begin_block, has_variant, may_come}
-use Rattle.iloc_expected.proofs.Following.{
-  other_apart,
-  no_true,
-  of_when,
-  of_plain,
-  of_words,
-  of_if,
-  sd_key,
-  by_test,
-  in_block,
-  in_head,
-  outside,
-  IsOutside,
-}
+use Rattle.iloc_expected.proofs.Following.{other_apart, no_true, of_when, of_plain, of_words, of_if, sd_key, by_test, in_block, in_head, outside, IsOutside}
 
 -- ---- a singleton
 

@@ -1,37 +1,17 @@
 -- What comes next is of a kind that may come, and the part is that of its place.
-use Rattle.std.proofs.Common.{◌≡◌, ℕ, Bool, true, false, ◌&&◌, ◌||◌, ◌==◌, List, [], ◌∷◌, ◌++◌}
-use Rattle.std.proofs.Common.{slice_index, Option, Some, None, option_map, codes, if◌then◌else◌, refl, sym}
-use Rattle.std.proofs.Common.{◌∙◌, subst, true≢false, inl, inr, arith}
+use Rattle.std.proofs.Common.{◌≡◌, ℕ, Bool, true, false, ◌&&◌, ◌||◌, ◌==◌, List, [], ◌∷◌, ◌++◌, slice_index, Option, Some, None, option_map, codes, if◌then◌else◌, refl, sym, ◌∙◌, subst, true≢false, inl, inr, arith}
 use Rattle.std.specs.List.{list_any}
 use Rattle.std.specs.Char.{is_ascii_alphanumeric, to_ascii_lowercase}
 use Rattle.std.proofs.lemmas.Bool.{cases_Bool, and_parts, or_parts, not-true, or_left, or_right, eqb-true}
-use Rattle.iloc_spec_grammar.specs.Syntax.{Text, code_t, code_u, code_x, is_word, is_one_byte}
-use Rattle.iloc_spec_grammar.specs.Syntax.{is_other_singleton, lower, is_same, UnicodeKey, TransformKey}
+use Rattle.iloc_spec_grammar.specs.Syntax.{Text, code_t, code_u, code_x, is_word, is_one_byte, is_other_singleton, lower, is_same, UnicodeKey, TransformKey}
 use Rattle.iloc_spec_grammar.proofs.MapLaws.{same_is}
 use Rattle.iloc_spec_grammar.proofs.Singletons.{IsKind, of_u, of_t, of_x, another, kind_of, lower_letter}
 use Rattle.iloc_normalize.specs.declared.Mode.{Mode}
 use Rattle.iloc_normalize.specs.declared.Mode.TheVariants.{Langid, Locale, Data}
 use Rattle.iloc_faults.specs.declared.state.Part.{Part}
-use Rattle.iloc_faults.specs.declared.state.Part.TheVariants.{
-  Start,
-  Head,
-  Transform,
-  Source,
-  FieldKey,
-  FieldValue,
-  Unicode,
-  Keyword,
-  Other,
-  OtherWord,
-  Private,
-  PrivateWord,
-  Subdivision,
-  SubdivisionKey,
-  SubdivisionValue,
-}
+use Rattle.iloc_faults.specs.declared.state.Part.TheVariants.{Start, Head, Transform, Source, FieldKey, FieldValue, Unicode, Keyword, Other, OtherWord, Private, PrivateWord, Subdivision, SubdivisionKey, SubdivisionValue}
 use Rattle.iloc_faults.specs.declared.state.Stage.{Stage}
-use Rattle.iloc_faults.specs.Next.{Reached, plain, when, takes_any, part_of, begins_block, block_next}
-use Rattle.iloc_faults.specs.Next.{inside_next, piece_next, next}
+use Rattle.iloc_faults.specs.Next.{Reached, plain, when, takes_any, part_of, begins_block, block_next, inside_next, piece_next, next}
 use Rattle.iloc_faults.specs.States.{reached}
 use Rattle.iloc_expected.specs.Kinds.{Place, InExtension, InIdentifier}
 use Rattle.iloc_expected.specs.Readings.{IsReadAt, keyed_after}

@@ -1,20 +1,11 @@
 -- Where the piece after one more stands.
-use Rattle.std.proofs.Common.{◌≡◌, Bool, ◌==◌, ◌||◌, List, [], ◌∷◌, ◌++◌, length, slice_index, Option, Some}
-use Rattle.std.proofs.Common.{None, if◌then◌else◌, refl, sym, ap, ◌∙◌, append-nil, inl, inr, arith}
+use Rattle.std.proofs.Common.{◌≡◌, Bool, ◌==◌, ◌||◌, List, [], ◌∷◌, ◌++◌, length, slice_index, Option, Some, None, if◌then◌else◌, refl, sym, ap, ◌∙◌, append-nil, inl, inr, arith}
 use Rattle.std.specs.List.{list_any}
 use Rattle.std.specs.Char.{to_ascii_lowercase}
 use Rattle.std.proofs.lemmas.Bool.{cases_Bool}
 use Rattle.iloc_spec_grammar.specs.Syntax.{Text, Block, code_x, blocks, front, is_one_byte}
 use Rattle.iloc_spec_grammar.proofs.Singletons.{two_more}
-use Rattle.iloc_expected.specs.Kinds.{
-  Place,
-  AtBeginning,
-  InIdentifier,
-  InExtension,
-  last_block,
-  place_in,
-  place_after,
-}
+use Rattle.iloc_expected.specs.Kinds.{Place, AtBeginning, InIdentifier, InExtension, last_block, place_in, place_after}
 
 -- ---- the last block
 

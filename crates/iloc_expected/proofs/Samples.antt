@@ -1,48 +1,15 @@
 -- Each kind that may come has a piece that comes next.
-use Rattle.std.proofs.Common.{◌≡◌, ℕ, Bool, true, false, not, ◌&&◌, List, [], ◌∷◌, Option, Some, None}
-use Rattle.std.proofs.Common.{is_some, option_map, codes, refl, sym, true≢false, arith}
+use Rattle.std.proofs.Common.{◌≡◌, ℕ, Bool, true, false, not, ◌&&◌, List, [], ◌∷◌, Option, Some, None, is_some, option_map, codes, refl, sym, true≢false, arith}
 use Rattle.std.specs.Char.{is_ascii_alphanumeric}
 use Rattle.std.proofs.lemmas.Bool.{and_parts, not-true, false_from_ne_true}
 use Rattle.std.proofs.lemmas.Bool.Decides.{nat_tests}
-use Rattle.iloc_spec_grammar.specs.Syntax.{
-  Text,
-  code_t,
-  code_u,
-  code_x,
-  languages,
-  is_word,
-  IsWord,
-  is_one_byte,
-  lower,
-  is_true,
-  UnicodeKey,
-  TransformKey,
-  Variant,
-  IsHyphenFree,
-  word_cmp,
-}
+use Rattle.iloc_spec_grammar.specs.Syntax.{Text, code_t, code_u, code_x, languages, is_word, IsWord, is_one_byte, lower, is_true, UnicodeKey, TransformKey, Variant, IsHyphenFree, word_cmp}
 use Rattle.iloc_spec_grammar.specs.Syntax as grammar
 use Rattle.iloc_spec_grammar.proofs.WordsLaws.{variant_no_script, variant_no_region, length-transform_key}
 use Rattle.iloc_normalize.specs.declared.Mode.{Mode}
 use Rattle.iloc_normalize.specs.declared.Mode.TheVariants.{Langid, Locale, Data}
 use Rattle.iloc_faults.specs.declared.state.Part.{Part}
-use Rattle.iloc_faults.specs.declared.state.Part.TheVariants.{
-  Start,
-  Head,
-  Transform,
-  Source,
-  FieldKey,
-  FieldValue,
-  Unicode,
-  Keyword,
-  Other,
-  OtherWord,
-  Private,
-  PrivateWord,
-  Subdivision,
-  SubdivisionKey,
-  SubdivisionValue,
-}
+use Rattle.iloc_faults.specs.declared.state.Part.TheVariants.{Start, Head, Transform, Source, FieldKey, FieldValue, Unicode, Keyword, Other, OtherWord, Private, PrivateWord, Subdivision, SubdivisionKey, SubdivisionValue}
 use Rattle.iloc_faults.specs.declared.state.Stage.{Stage}
 use Rattle.iloc_faults.specs.declared.state.Stage.TheVariants.{Language, Script, Region}
 use Rattle.iloc_faults.specs.Next.{is_seen, is_new, may_end, takes_any, next, word_next}
@@ -50,8 +17,7 @@ use Rattle.iloc_faults.specs.States.{reached}
 use Rattle.iloc_expected.specs.declared.kinds.PieceKind.{PieceKind}
 use Rattle.iloc_expected.specs.declared.kinds.PieceKind.TheVariants as kinds
 use Rattle.iloc_expected.specs.Kinds.{Place, kind_at, has}
-use Rattle.iloc_expected.specs.Readings.{IsReadAt, has_variant, may_have_variant, may_begin_block}
-use Rattle.iloc_expected.specs.Readings.{piece_bits}
+use Rattle.iloc_expected.specs.Readings.{IsReadAt, has_variant, may_have_variant, may_begin_block, piece_bits}
 use Rattle.iloc_expected.proofs.Following.{other_apart, in_head, outside}
 use Rattle.iloc_expected.proofs.Coming.{singleton_is}
 use Rattle.iloc_expected.proofs.NewVariants.{IsNewVariant}

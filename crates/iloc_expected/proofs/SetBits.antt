@@ -1,6 +1,5 @@
 -- The bits of a set of kinds, and the kinds in it from a number on.
-use Rattle.std.proofs.Common.{◌≡◌, ℕ, ◌+◌, ◌*◌, ◌%◌, ◌<◌, ◌^◌, Bool, true, false, ◌&&◌, ◌||◌}
-use Rattle.std.proofs.Common.{◌==◌, ◌∷◌, drop, refl, arith, ◌++◌}
+use Rattle.std.proofs.Common.{◌≡◌, ℕ, ◌+◌, ◌*◌, ◌%◌, ◌<◌, ◌^◌, Bool, true, false, ◌&&◌, ◌||◌, ◌==◌, ◌∷◌, drop, refl, arith, ◌++◌}
 use Rattle.std.specs.Int.{bit_at}
 use lib.Bits.{bit_or}
 use Rattle.std.proofs.lemmas.Bool.{cases_eq, eq-eqb, ne_eqb}
@@ -9,8 +8,7 @@ use Rattle.iloc_expected.specs.declared.kinds.Expected.{Expected}
 use Rattle.iloc_expected.specs.declared.kinds.PieceKind.{PieceKind}
 use Rattle.iloc_expected.specs.declared.kinds.PieceKind.TheVariants as kinds
 use Rattle.iloc_expected.specs.Kinds.{has, kind_bit}
-use Rattle.iloc_expected.specs.Words.{piece_kinds, named_from, before_next, after_first, kind_words}
-use Rattle.iloc_expected.specs.Words.{words_of}
+use Rattle.iloc_expected.specs.Words.{piece_kinds, named_from, before_next, after_first, kind_words, words_of}
 use Rattle.iloc_spec_grammar.specs.Syntax.{Text}
 
 -- with the bit of n it is set too

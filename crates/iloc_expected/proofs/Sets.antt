@@ -1,7 +1,5 @@
 -- The kinds that may come after what was read are those that may stand there.
-use Rattle.std.proofs.Common.{◌≡◌, ◌≢◌, ℕ, ◌<◌, ◌^◌, Bool, true, false, not, ◌&&◌, ◌||◌, ◌==◌, List}
-use Rattle.std.proofs.Common.{[], ◌∷◌, ◌++◌, length, Option, Some, None, is_some, is_none, refl, sym, ap}
-use Rattle.std.proofs.Common.{◌∙◌, subst, true≢false, append-nil, arith}
+use Rattle.std.proofs.Common.{◌≡◌, ◌≢◌, ℕ, ◌<◌, ◌^◌, Bool, true, false, not, ◌&&◌, ◌||◌, ◌==◌, List, [], ◌∷◌, ◌++◌, length, Option, Some, None, is_some, is_none, refl, sym, ap, ◌∙◌, subst, true≢false, append-nil, arith}
 use Rattle.std.specs.List.{AllByRecursion}
 use Rattle.std.specs.Int.{bit_at}
 use Rattle.iloc_spec_grammar.specs.Syntax.{Text, pieces, join, IsHyphenFree}
@@ -26,14 +24,7 @@ use Rattle.iloc_expected.specs.Readings.{IsReading, may_begin_block, may_have_va
 use Rattle.iloc_expected.proofs.Coming.{IsLeft, AreNone, next_may}
 use Rattle.iloc_expected.proofs.NewVariants.{new_variant}
 use Rattle.iloc_expected.proofs.Singles.{has_left, is_left}
-use Rattle.iloc_expected.proofs.Samples.{
-  HasPiece,
-  AreSome,
-  HasLeft,
-  plain_piece,
-  variant_piece,
-  singleton_piece,
-}
+use Rattle.iloc_expected.proofs.Samples.{HasPiece, AreSome, HasLeft, plain_piece, variant_piece, singleton_piece}
 
 -- ---- the bits of a set
 

@@ -1,20 +1,5 @@
 -- The bits of singletons: whether one is left.
-use Rattle.std.proofs.Common.{arith}
-use Rattle.std.proofs.Common.{
-  ◌≡◌,
-  ℕ,
-  ◌+◌,
-  ◌<◌,
-  Bool,
-  true,
-  false,
-  List,
-  nat_lt,
-  ap,
-  ◌∙◌,
-  arith,
-  if◌then◌else◌,
-}
+use Rattle.std.proofs.Common.{arith, ◌≡◌, ℕ, ◌+◌, ◌<◌, Bool, true, false, List, nat_lt, ap, ◌∙◌, if◌then◌else◌}
 use Rattle.std.specs.Char.{is_ascii_alphanumeric, to_ascii_lowercase}
 use Rattle.std.specs.Int.{bit_at}
 use Rattle.std.proofs.lemmas.Bool.{false_from_ne_true}

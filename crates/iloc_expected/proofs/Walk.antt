@@ -1,7 +1,5 @@
 -- What the reader of the pieces before a place says.
-use Rattle.std.proofs.Common.{◌≡◌, ◌≢◌, ◌↔◌, ℕ, suc, ◌+◌, ◌≤◌, Bool, false, List, [], ◌∷◌, ◌++◌, length}
-use Rattle.std.proofs.Common.{min, take_all, take, Option, Some, None, option_map, refl, sym, ap, ◌∙◌}
-use Rattle.std.proofs.Common.{subst, append-nil, append_assoc, length-append, arith, inl, inr}
+use Rattle.std.proofs.Common.{◌≡◌, ◌≢◌, ◌↔◌, ℕ, suc, ◌+◌, ◌≤◌, Bool, false, List, [], ◌∷◌, ◌++◌, length, min, take_all, take, Option, Some, None, option_map, refl, sym, ap, ◌∙◌, subst, append-nil, append_assoc, length-append, arith, inl, inr}
 use Rattle.std.specs.List.{AllByRecursion}
 use Rattle.std.proofs.lemmas.Bool.{cases_lt}
 use Rattle.iloc_spec_grammar.specs.Syntax.{Text, pieces, join, dashes, is_word, IsHyphenFree, TransformKey}
@@ -13,8 +11,7 @@ use Rattle.iloc_normalize.specs.declared.Mode.{Mode}
 use Rattle.iloc_faults.specs.declared.state.Part.{Part}
 use Rattle.iloc_faults.specs.declared.state.Part.TheVariants.{Start, Head, Transform, Source, FieldKey}
 use Rattle.iloc_faults.specs.declared.state.Stage.{Stage}
-use Rattle.iloc_faults.specs.Next.{Reached, started, plain, block_next, inside_next, word_next}
-use Rattle.iloc_faults.specs.Next.{after_script_next, after_region_next, next, run}
+use Rattle.iloc_faults.specs.Next.{Reached, started, plain, block_next, inside_next, word_next, after_script_next, after_region_next, next, run}
 use Rattle.iloc_faults.specs.States.{AreVariantsRead, reached}
 use Rattle.iloc_faults.specs.Places.{GoOn}
 use Rattle.iloc_faults.proofs.Going.{run_append, goes_no_longer}
@@ -25,15 +22,7 @@ use Rattle.iloc_faults.proofs.OnePlace.{fewer}
 use Rattle.iloc_expected.specs.declared.reading.Reading.{Reading}
 use Rattle.iloc_expected.specs.Kinds.{Place, place_after}
 use Rattle.iloc_expected.specs.Standing.{without_empty}
-use Rattle.iloc_expected.specs.Readings.{
-  IsReadAt,
-  IsReading,
-  IsPieceTaken,
-  IsReadUpTo,
-  IsReadOn,
-  IsStopped,
-  keyed_after,
-}
+use Rattle.iloc_expected.specs.Readings.{IsReadAt, IsReading, IsPieceTaken, IsReadUpTo, IsReadOn, IsStopped, keyed_after}
 use Rattle.iloc_expected.proofs.Places.{place_of_more}
 use Rattle.iloc_expected.proofs.Following.{of_if, by_test, next_made}
 

@@ -1,18 +1,14 @@
 -- From what a block's reader answers to the answer of the whole.
-use Rattle.std.proofs.Common.{◌≡◌, OnOk, IfErr, ℕ, ◌≤◌, Bool, true, false, ◌||◌, ◌==◌, List, [], ◌∷◌}
-use Rattle.std.proofs.Common.{length, refl, sym, ap, ◌∙◌, subst, arith, Some, None, Result, Ok, Err}
-use Rattle.std.proofs.Common.{true≢false, nat_lt, Option, option_map, not, is_some, ◌&&◌}
+use Rattle.std.proofs.Common.{◌≡◌, OnOk, IfErr, ℕ, ◌≤◌, Bool, true, false, ◌||◌, ◌==◌, List, [], ◌∷◌, length, refl, sym, ap, ◌∙◌, subst, arith, Some, None, Result, Ok, Err, true≢false, nat_lt, Option, option_map, not, is_some, ◌&&◌}
 use Rattle.std.specs.Result.{result_and}
 use Rattle.std.specs.List.{AllByRecursion, list_any}
 use Rattle.std.specs.Char.{is_ascii_alphanumeric, to_ascii_lowercase}
 use Rattle.std.specs.Ordering.{nat_cmp}
 use Rattle.std.specs.FinMap.{put}
 use Rattle.std.proofs.lemmas.Bool.Decides.{nat_tests}
-use Rattle.iloc_spec_grammar.specs.Syntax.{code_x, code_u, code_t, Text, languages, IsOther}
-use Rattle.iloc_spec_grammar.specs.Syntax.{is_other_singleton, kept, is_one_byte, front, blocks}
+use Rattle.iloc_spec_grammar.specs.Syntax.{code_x, code_u, code_t, Text, languages, IsOther, is_other_singleton, kept, is_one_byte, front, blocks}
 use Rattle.iloc_spec_grammar.specs.Syntax as written
-use Rattle.iloc_spec_grammar.specs.Meaning.{Extensions, no_extensions, BlocksMean, HasBlockFault}
-use Rattle.iloc_spec_grammar.specs.Meaning.{normal_values}
+use Rattle.iloc_spec_grammar.specs.Meaning.{Extensions, no_extensions, BlocksMean, HasBlockFault, normal_values}
 use Rattle.iloc_spec_grammar.specs.Meaning as faults
 use Rattle.iloc_subtags.specs.NextPiece.{byte_at}
 use Rattle.iloc_subtags.proofs.ByteLemmas.{byte_first, no_byte}
@@ -24,9 +20,7 @@ use Rattle.iloc_spec_parts.specs.Inline.{IsShortUnicode, IsShortTransform}
 use Rattle.iloc_spec_parts.proofs.ShortFronts.{fronts_are_short}
 use Rattle.iloc_spec_grammar.proofs.RawLaws.{languages_table}
 use Rattle.iloc_subtags.specs.declared.parse_error.ParseError.{ParseError}
-use Rattle.iloc_subtags.specs.declared.parse_error.ParseError.TheVariants.{InvalidLanguage, InvalidSubtag}
-use Rattle.iloc_subtags.specs.declared.parse_error.ParseError.TheVariants.{InvalidExtension}
-use Rattle.iloc_subtags.specs.declared.parse_error.ParseError.TheVariants.{DuplicatedExtension, OutOfMemory}
+use Rattle.iloc_subtags.specs.declared.parse_error.ParseError.TheVariants.{InvalidLanguage, InvalidSubtag, InvalidExtension, DuplicatedExtension, OutOfMemory}
 use Rattle.iloc_unicode.specs.declared.unicode.Unicode.{Unicode}
 use Rattle.iloc_unicode.specs.Reads.{second_key, fifth_value, has_many_values}
 use Rattle.iloc_unicode.specs.UnicodeReads.{UnicodeWantsMemory, fifth_attribute, for_keywords}
@@ -37,10 +31,7 @@ use Rattle.iloc_other.specs.Reading.{PrivateFills}
 use Rattle.iloc_extensions.specs.Blocks.{BlocksDone, BlockAt, BlockReads, is_read}
 use Rattle.iloc_extensions.proofs.PartAnswers.{UnicodeBlock, TransformBlock, OtherBlock}
 use Rattle.iloc_extensions.proofs.FaultNames.{private_names}
-use Rattle.iloc_extensions.proofs.RoundLaws.{no_letter, met_before, unicode_done, unicode_bad, unicode_long}
-use Rattle.iloc_extensions.proofs.RoundLaws.{transform_done, transform_repeats, transform_bad}
-use Rattle.iloc_extensions.proofs.RoundLaws.{transform_long, other_done, other_bad, other_long}
-use Rattle.iloc_extensions.proofs.RoundLaws.{private_done, private_bad, private_long}
+use Rattle.iloc_extensions.proofs.RoundLaws.{no_letter, met_before, unicode_done, unicode_bad, unicode_long, transform_done, transform_repeats, transform_bad, transform_long, other_done, other_bad, other_long, private_done, private_bad, private_long}
 use Rattle.std.proofs.lemmas.Bool.{not-false}
 
 -- few words want no memory

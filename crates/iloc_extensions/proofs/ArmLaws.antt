@@ -1,7 +1,5 @@
 -- One block more: what it adds to what was read, and which singletons were read.
-use Rattle.std.proofs.Common.{◌≡◌, ℕ, suc, ◌+◌, ◌<◌, Bool, true, false, cond, ◌&&◌, not, ◌==◌, List}
-use Rattle.std.proofs.Common.{[], ◌∷◌, length, map, refl, sym, ap, ◌∙◌, subst, arith, Option, Some}
-use Rattle.std.proofs.Common.{None, is_some, option_map, true≢false}
+use Rattle.std.proofs.Common.{◌≡◌, ℕ, suc, ◌+◌, ◌<◌, Bool, true, false, cond, ◌&&◌, not, ◌==◌, List, [], ◌∷◌, length, map, refl, sym, ap, ◌∙◌, subst, arith, Option, Some, None, is_some, option_map, true≢false}
 use Rattle.std.specs.Prelude.{if◌then◌else◌}
 use Rattle.std.specs.List.{list_any}
 use Rattle.std.specs.Char.{is_ascii_alphanumeric}
@@ -11,19 +9,13 @@ use Rattle.std.specs.Cmp.{nat_cmp_total}
 use Rattle.std.specs.FinMap.{find, put}
 use Rattle.std.specs.FinMap.Entries.{is_some-find}
 use Rattle.std.proofs.lemmas.Bool.Decides.{nat_tests}
-use Rattle.iloc_spec_grammar.specs.Syntax.{code_x, code_u, code_t, Text, lower, word_cmp, SpelledIdentifier}
-use Rattle.iloc_spec_grammar.specs.Syntax.{Unicode, Transform, Fields}
-use Rattle.iloc_spec_grammar.specs.Syntax.{kept, lower_singleton, is_other_singleton, IsPrivate}
+use Rattle.iloc_spec_grammar.specs.Syntax.{code_x, code_u, code_t, Text, lower, word_cmp, SpelledIdentifier, Unicode, Transform, Fields, kept, lower_singleton, is_other_singleton, IsPrivate}
 use Rattle.iloc_spec_grammar.specs.Tree.{by_singleton}
-use Rattle.iloc_spec_grammar.specs.Meaning.{Extensions, map_of, set_of, normal_fields, normal_identifier}
-use Rattle.iloc_spec_grammar.specs.Meaning.{no_unicode, no_transform}
-use Rattle.iloc_spec_grammar.specs.ByBlocks.{UnicodeMeans, TransformMeans, PrivateMeans}
-use Rattle.iloc_spec_grammar.specs.Meaning.{other_blocks}
-use Rattle.iloc_spec_grammar.specs.ByBlocks.{grammar_rules, PartIs, BlocksGive}
+use Rattle.iloc_spec_grammar.specs.Meaning.{Extensions, map_of, set_of, normal_fields, normal_identifier, no_unicode, no_transform, other_blocks}
+use Rattle.iloc_spec_grammar.specs.ByBlocks.{UnicodeMeans, TransformMeans, PrivateMeans, grammar_rules, PartIs, BlocksGive}
 use Rattle.iloc_spec_grammar.proofs.MapLaws.{find-map_of}
 use Rattle.iloc_extensions.specs.Blocks.{is_read}
-use Rattle.iloc_spec_grammar.proofs.Singletons.{tied, no_u, no_t, no_x, IsKind, of_u, of_t, of_x, another}
-use Rattle.iloc_spec_grammar.proofs.Singletons.{kind_of}
+use Rattle.iloc_spec_grammar.proofs.Singletons.{tied, no_u, no_t, no_x, IsKind, of_u, of_t, of_x, another, kind_of}
 use Rattle.iloc_extensions.proofs.DoneLaws.{letter_keys}
 
 -- what is put into a map is there

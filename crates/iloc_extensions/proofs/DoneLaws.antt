@@ -1,21 +1,17 @@
 -- Blocks that were read, in whatever order: what they mean, and one block more.
-use Rattle.std.proofs.Common.{◌≡◌, ℕ, Bool, true, false, cond, List, [], ◌∷◌, ◌++◌, map, filter, refl, sym}
-use Rattle.std.proofs.Common.{ap, ◌∙◌, subst, append-nil, arith}
+use Rattle.std.proofs.Common.{◌≡◌, ℕ, Bool, true, false, cond, List, [], ◌∷◌, ◌++◌, map, filter, refl, sym, ap, ◌∙◌, subst, append-nil, arith}
 use Rattle.std.specs.List.{list_any}
 use Rattle.std.specs.Char.{is_ascii_alphanumeric}
 use Rattle.std.specs.Ordering.{nat_cmp, eq_by_cmp}
 use Rattle.std.specs.Cmp.{nat_cmp_total}
 use Rattle.std.specs.FinMap.{find, nat_cmp-IsAntisymmetric}
 use Rattle.std.proofs.lemmas.Bool.{or_parts, or_from, both_ways, false_from_ne_true}
-use Rattle.iloc_spec_grammar.specs.Syntax.{code_x, code_u, code_t, Text, kept, AllDifferent}
-use Rattle.iloc_spec_grammar.specs.Syntax.{lower_singleton, is_other_singleton}
-use Rattle.iloc_spec_grammar.specs.Meaning.{Extensions, BlocksMean, no_unicode, no_transform}
+use Rattle.iloc_spec_grammar.specs.Syntax.{code_x, code_u, code_t, Text, kept, AllDifferent, lower_singleton, is_other_singleton}
+use Rattle.iloc_spec_grammar.specs.Meaning.{Extensions, BlocksMean, no_unicode, no_transform, other_blocks}
 use Rattle.iloc_spec_grammar.specs.Tree.{by_singleton}
 use Rattle.iloc_spec_grammar.specs.ByBlocks.{Rules, PartIs, BlocksGive}
-use Rattle.iloc_spec_grammar.specs.Meaning.{other_blocks}
 use Rattle.iloc_spec_grammar.specs.Values.{Reordered, in_turn}
-use Rattle.iloc_spec_grammar.proofs.Orders.{itself, moved, all_reordered, map_reordered}
-use Rattle.iloc_spec_grammar.proofs.Orders.{different_reordered, find_reordered, filter_reordered}
+use Rattle.iloc_spec_grammar.proofs.Orders.{itself, moved, all_reordered, map_reordered, different_reordered, find_reordered, filter_reordered}
 use Rattle.iloc_spec_grammar.proofs.MapLaws.{map_of_same}
 use Rattle.iloc_spec_grammar.proofs.SameMeaning.{mean_give, give_mean}
 use Rattle.iloc_extensions.specs.Blocks.{onto}

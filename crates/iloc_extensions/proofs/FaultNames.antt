@@ -2,9 +2,7 @@
 use Rattle.std.proofs.Common.{◌≡◌, ◌⊎◌, List, refl, arith}
 use Rattle.iloc_spec_grammar.specs.Syntax.{Text, languages}
 use Rattle.iloc_spec_grammar.specs.Meaning.{Fault, InvalidSubtag, InvalidExtension}
-use Rattle.iloc_spec_parts.specs.Fronts.{KeywordsFault, bad_key, UnicodeFault}
-use Rattle.iloc_spec_parts.specs.Fronts.{TransformFault}
-use Rattle.iloc_spec_parts.specs.Fronts.{OtherFault, no_word, PrivateFault, not_private}
+use Rattle.iloc_spec_parts.specs.Fronts.{KeywordsFault, bad_key, UnicodeFault, TransformFault, OtherFault, no_word, PrivateFault, not_private}
 
 keywords_names : (ps : List Text) (f : Fault) → KeywordsFault ps f → f ≡ InvalidExtension
 keywords_names ps f (bad_key h) = refl

@@ -1,6 +1,5 @@
 -- From what a part's reader takes at the front to what the block means.
-use Rattle.std.proofs.Common.{◌≡◌, ℕ, true, false, List, refl, Ok}
-use Rattle.std.proofs.Common.{Err, arith}
+use Rattle.std.proofs.Common.{◌≡◌, ℕ, true, false, List, refl, Ok, Err, arith}
 use Rattle.iloc_spec_grammar.specs.Syntax.{Text, languages, kept, front}
 use Rattle.iloc_spec_grammar.specs.Reading.{starts_block}
 use Rattle.iloc_spec_grammar.specs.Meaning as faults
@@ -10,9 +9,7 @@ use Rattle.iloc_spec_parts.proofs.FrontLaws.{unicode_agrees, other_agrees}
 use Rattle.iloc_spec_parts.proofs.KeptLaws.{other_front-front}
 use Rattle.iloc_spec_parts.proofs.TransformLaws.{transform_agrees, repeats_by_block, transform_reader}
 use Rattle.iloc_subtags.specs.declared.parse_error.ParseError.{ParseError}
-use Rattle.iloc_subtags.specs.declared.parse_error.ParseError.TheVariants.{InvalidLanguage, InvalidSubtag}
-use Rattle.iloc_subtags.specs.declared.parse_error.ParseError.TheVariants.{InvalidExtension}
-use Rattle.iloc_subtags.specs.declared.parse_error.ParseError.TheVariants.{DuplicatedExtension, OutOfMemory}
+use Rattle.iloc_subtags.specs.declared.parse_error.ParseError.TheVariants.{InvalidLanguage, InvalidSubtag, InvalidExtension, DuplicatedExtension, OutOfMemory}
 use Rattle.iloc_subtags.specs.Judging.{RunsOutOnlyIf}
 use Rattle.iloc_unicode.specs.declared.unicode.Unicode.{Unicode}
 use Rattle.iloc_unicode.specs.UnicodeReads.{UnicodeFills}

@@ -1,6 +1,5 @@
 -- How much room a locale takes at most.
-use Rattle.std.proofs.Common.{◌≡◌, ℕ, ◌+◌, ◌≤◌, List, [], ◌∷◌, length, refl, arith, Result}
-use Rattle.std.proofs.Common.{OnOk, IfOk, IsOkAnd, OnErr}
+use Rattle.std.proofs.Common.{◌≡◌, ℕ, ◌+◌, ◌≤◌, List, [], ◌∷◌, length, refl, arith, Result, OnOk, IfOk, IsOkAnd, OnErr}
 use Rattle.std.specs.FinMap.{put}
 use Rattle.std.specs.Ordering.{nat_cmp}
 use Rattle.iloc_memory.specs.Refusals.{RefusedWithin}

@@ -1,21 +1,15 @@
 -- One round of the reader of blocks: from the byte that begins a block to the next block, or to a refusal.
 use Rattle.std.proofs.lemmas.Bool.{false_from_ne_true}
-use Rattle.std.proofs.Common.{◌≡◌, ℕ, ◌≤◌, Bool, true, false, ◌==◌, List, [], ◌∷◌, length, map, refl}
-use Rattle.std.proofs.Common.{sym, ap, ◌∙◌, subst, arith}
+use Rattle.std.proofs.Common.{◌≡◌, ℕ, ◌≤◌, Bool, true, false, ◌==◌, List, [], ◌∷◌, length, map, refl, sym, ap, ◌∙◌, subst, arith}
 use Rattle.std.specs.List.{AllByRecursion, list_any}
 use Rattle.std.specs.Char.{is_ascii_alphanumeric, to_ascii_lowercase}
 use Rattle.std.specs.Ordering.{nat_cmp, eq_by_cmp}
 use Rattle.std.specs.FinMap.{put}
 use Rattle.std.proofs.lemmas.Bool.Decides.{nat_tests}
-use Rattle.iloc_spec_grammar.specs.Syntax.{code_x, code_u, code_t, Text, AreLengths, Unicode, Transform}
-use Rattle.iloc_spec_grammar.specs.Syntax.{IsOther, kept, AllDifferent, lower_singleton, is_other_singleton}
-use Rattle.iloc_spec_grammar.specs.Syntax.{front, blocks, IsPrivate, is_word, PrivateSubtag}
-use Rattle.iloc_spec_grammar.specs.Tree.{IsBlock, TreeBlockFault, no_singleton, duplicated, repeats_variant}
-use Rattle.iloc_spec_grammar.specs.Tree.{breaks_rule, FirstBadBlock, here, later}
-use Rattle.iloc_spec_grammar.specs.Meaning.{Extensions, Fault, InvalidSubtag, InvalidExtension}
-use Rattle.iloc_spec_grammar.specs.Meaning.{DuplicatedExtension, HasBlockFault, RepeatsVariant}
-use Rattle.iloc_spec_grammar.specs.ByBlocks.{UnicodeMeans, TransformMeans, PrivateMeans, OtherMeans}
-use Rattle.iloc_spec_grammar.specs.ByBlocks.{grammar_rules, BlocksGive}
+use Rattle.iloc_spec_grammar.specs.Syntax.{code_x, code_u, code_t, Text, AreLengths, Unicode, Transform, IsOther, kept, AllDifferent, lower_singleton, is_other_singleton, front, blocks, IsPrivate, is_word, PrivateSubtag}
+use Rattle.iloc_spec_grammar.specs.Tree.{IsBlock, TreeBlockFault, no_singleton, duplicated, repeats_variant, breaks_rule, FirstBadBlock, here, later}
+use Rattle.iloc_spec_grammar.specs.Meaning.{Extensions, Fault, InvalidSubtag, InvalidExtension, DuplicatedExtension, HasBlockFault, RepeatsVariant}
+use Rattle.iloc_spec_grammar.specs.ByBlocks.{UnicodeMeans, TransformMeans, PrivateMeans, OtherMeans, grammar_rules, BlocksGive}
 use Rattle.iloc_spec_grammar.specs.Reading.{starts_block, from_block, passing}
 use Rattle.iloc_spec_grammar.proofs.ReadingLaws.{front-from_block, from_block_starts}
 use Rattle.iloc_spec_grammar.proofs.FaultLaws.{AreGood}
@@ -23,10 +17,8 @@ use Rattle.iloc_spec_grammar.proofs.SameMeaning.{good_blocks, mean_give, give_me
 use Rattle.iloc_spec_grammar.proofs.SameFaults.{fault_of_first}
 use Rattle.iloc_spec_parts.proofs.BlockRules.{unicode_rule, transform_rule, private_rule, other_rule}
 use Rattle.iloc_spec_parts.proofs.ShortFronts as long
-use Rattle.iloc_spec_parts.proofs.ShortFronts.{MeetsLongBlock, met_is_reached, short_unicode_front}
-use Rattle.iloc_spec_parts.proofs.ShortFronts.{short_transform_front}
-use Rattle.iloc_spec_parts.specs.Inline.{IsShortUnicode, IsShortTransform, IsShortOther, IsShortBlock}
-use Rattle.iloc_spec_parts.specs.Inline.{ReachesLongBlock}
+use Rattle.iloc_spec_parts.proofs.ShortFronts.{MeetsLongBlock, met_is_reached, short_unicode_front, short_transform_front}
+use Rattle.iloc_spec_parts.specs.Inline.{IsShortUnicode, IsShortTransform, IsShortOther, IsShortBlock, ReachesLongBlock}
 use Rattle.iloc_extensions.specs.Blocks.{BlocksDone, BlockAt, onto, is_read}
 use Rattle.iloc_extensions.proofs.ArmLaws.{read_is_known}
 use Rattle.iloc_extensions.proofs.StepLaws.{unicode_added, transform_added, private_added, other_added}

@@ -1,11 +1,9 @@
 -- Where the others are cut, and the pieces of all parts.
-use Rattle.std.proofs.Common.{◌≡◌, ℕ, suc, ◌+◌, ◌<◌, ◌≤◌, false, cond, List, [], ◌∷◌, ◌++◌, take}
-use Rattle.std.proofs.Common.{drop, flat_map, nat_le, refl, sym, ap, ◌∙◌, arith, append-nil}
+use Rattle.std.proofs.Common.{◌≡◌, ℕ, suc, ◌+◌, ◌<◌, ◌≤◌, false, cond, List, [], ◌∷◌, ◌++◌, take, drop, flat_map, nat_le, refl, sym, ap, ◌∙◌, arith, append-nil}
 use Rattle.std.proofs.lemmas.List.{take-append-drop}
 use Rattle.std.proofs.lemmas.List.Concat.{flat_map-append}
 use Rattle.iloc_spec_grammar.specs.Meaning.{Extensions}
-use Rattle.iloc_spec_grammar.specs.Values.{before_above, other_spelling, transform_spelling}
-use Rattle.iloc_spec_grammar.specs.Values.{unicode_spelling, private_spelling, extensions_spelling}
+use Rattle.iloc_spec_grammar.specs.Values.{before_above, other_spelling, transform_spelling, unicode_spelling, private_spelling, extensions_spelling}
 use Rattle.iloc_writeable.specs.Pieces.{is_there}
 use Rattle.iloc_spec_grammar.proofs.PartTexts.{spelling_around}
 use Rattle.iloc_spec_grammar.specs.Syntax.{code_t, Text}

@@ -1,18 +1,15 @@
 -- One step of the reader of blocks: a block that is read, and a block that is refused.
 use Rattle.std.proofs.lemmas.Bool.{both_ways}
-use Rattle.std.proofs.Common.{◌≡◌, ◌⊎◌, ℕ, true, false, ◌==◌, List, ◌∷◌, map, sym}
-use Rattle.std.proofs.Common.{ap, ◌∙◌, subst, arith, Some}
+use Rattle.std.proofs.Common.{◌≡◌, ◌⊎◌, ℕ, true, false, ◌==◌, List, ◌∷◌, map, sym, ap, ◌∙◌, subst, arith, Some}
 use Rattle.std.specs.List.{AllByRecursion, list_any}
 use Rattle.std.specs.Char.{is_ascii_alphanumeric}
 use Rattle.std.specs.Ordering.{nat_cmp, eq_by_cmp}
 use Rattle.std.specs.FinMap.{find, put}
 use Rattle.std.proofs.lemmas.Bool.Decides.{nat_tests}
-use Rattle.iloc_spec_grammar.specs.Syntax.{code_x, code_u, code_t, Text, Unicode, Transform, kept}
-use Rattle.iloc_spec_grammar.specs.Syntax.{lower_singleton, is_other_singleton}
-use Rattle.iloc_spec_grammar.specs.Meaning.{Extensions, map_of}
+use Rattle.iloc_spec_grammar.specs.Syntax.{code_x, code_u, code_t, Text, Unicode, Transform, kept, lower_singleton, is_other_singleton}
+use Rattle.iloc_spec_grammar.specs.Meaning.{Extensions, map_of, other_blocks}
 use Rattle.iloc_spec_grammar.specs.Tree.{by_singleton}
 use Rattle.iloc_spec_grammar.specs.ByBlocks.{Rules, PartIs, BlocksGive}
-use Rattle.iloc_spec_grammar.specs.Meaning.{other_blocks}
 
 -- numbers of singletons
 

@@ -1,6 +1,5 @@
 -- Where other extensions stand among the others, and where a new one belongs.
-use Rattle.std.proofs.Common.{◌≡◌, ◌≢◌, ℕ, suc, ◌+◌, ◌<◌, ◌≤◌, Bool, true, false, cond, ◌==◌, List, [], ◌∷◌}
-use Rattle.std.proofs.Common.{length, refl, sym, ap, ◌∙◌, subst, arith, true≢false, nat_lt}
+use Rattle.std.proofs.Common.{◌≡◌, ◌≢◌, ℕ, suc, ◌+◌, ◌<◌, ◌≤◌, Bool, true, false, cond, ◌==◌, List, [], ◌∷◌, length, refl, sym, ap, ◌∙◌, subst, arith, true≢false, nat_lt}
 use Rattle.std.specs.Prelude.{Option, Some, is_some, option_map, slice_get, unwrap_or}
 use Rattle.std.specs.List.{insert, slice_set}
 use Rattle.std.specs.Ordering.{nat_cmp, eq_by_cmp}

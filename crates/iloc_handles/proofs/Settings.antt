@@ -1,6 +1,5 @@
 -- Locales that are equal, and changes that want a box.
-use Rattle.std.proofs.Common.{◌≡◌, ℕ, Bool, true, false, IsTrue, ◌↔◌, inl, inr, refl, sym, ◌∙◌, subst}
-use Rattle.std.proofs.Common.{true≢false}
+use Rattle.std.proofs.Common.{◌≡◌, ℕ, Bool, true, false, IsTrue, ◌↔◌, inl, inr, refl, sym, ◌∙◌, subst, true≢false}
 use Rattle.std.specs.Prelude.{◌≢◌, Option, None}
 use Rattle.std.specs.Int.{from_bool}
 use Rattle.std.specs.Ordering.{is_eq}

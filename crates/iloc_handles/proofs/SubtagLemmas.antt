@@ -1,7 +1,6 @@
 -- From what is read to whether it is a subtag.
 use Rattle.iloc_word_list.proofs.CollectorLaws.{ascending}
-use Rattle.std.proofs.Common.{◌≡◌, ◌↔◌, ℕ, ◌<◌, List, Bool, true, false, IsTrue, Result, length}
-use Rattle.std.proofs.Common.{remove, refl, sym, ap, subst, ◌∙◌, true≢false}
+use Rattle.std.proofs.Common.{◌≡◌, ◌↔◌, ℕ, ◌<◌, List, Bool, true, false, IsTrue, Result, length, remove, refl, sym, ap, subst, ◌∙◌, true≢false}
 use Rattle.std.specs.Prelude.{MatchResult, not, filter, is_some}
 use Rattle.std.specs.List.{list_any, HoldsAt}
 use Rattle.std.specs.declared.cmp.Ordering.TheVariants.{Equal}

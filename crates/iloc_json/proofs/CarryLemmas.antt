@@ -1,6 +1,5 @@
 -- One word more, a bad one, or no memory for it.
-use Rattle.std.proofs.Common.{◌≡◌, ◌≢◌, ℕ, ◌+◌, ◌%◌, ◌≤◌, List, [], ◌∷◌, ◌++◌, length, take, ◌-◌, drop}
-use Rattle.std.proofs.Common.{get_or, refl, sym, ap, ◌∙◌, arith, append_assoc, append-nil, length-append, replicate}
+use Rattle.std.proofs.Common.{◌≡◌, ◌≢◌, ℕ, ◌+◌, ◌%◌, ◌≤◌, List, [], ◌∷◌, ◌++◌, length, take, ◌-◌, drop, get_or, refl, sym, ap, ◌∙◌, arith, append_assoc, append-nil, length-append, replicate}
 use Rattle.std.specs.List.{flat_map, AllByRecursion}
 use Rattle.iloc_spec_grammar.specs.Syntax.{Text, Language, languages, two_or_three, narrow_raw, wide_raw}
 use Rattle.iloc_spec_grammar.specs.Values.{IsNormal}

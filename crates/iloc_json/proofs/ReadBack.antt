@@ -1,6 +1,5 @@
 -- Texts of words, identifiers and well-formed locales are read as these, and so are their JSON strings.
-use Rattle.std.proofs.Common.{◌≡◌, Option, Some, Result, Ok, Err, if◌then◌else◌, refl, sym, ap, ◌∙◌}
-use Rattle.std.proofs.Common.{subst, true, false}
+use Rattle.std.proofs.Common.{◌≡◌, Option, Some, Result, Ok, Err, if◌then◌else◌, refl, sym, ap, ◌∙◌, subst, true, false}
 use Rattle.serde_json.specs.Data.{Data, string}
 use Rattle.serde_json.specs.Find.{as_str}
 use Rattle.iloc_spec_grammar.specs.Syntax.{Text, Kind, read, normal, is_word, languages, pieces}
@@ -12,9 +11,7 @@ use Rattle.iloc_spec_grammar.proofs.SameFaults.{accepted_no_fault}
 use Rattle.iloc_spec_grammar.proofs.SameMeaning.{one_meaning}
 use Rattle.iloc_spec_grammar.proofs.RawLaws.{languages_table}
 use Rattle.iloc_subtags.specs.declared.parse_error.ParseError.{ParseError}
-use Rattle.iloc_subtags.specs.declared.parse_error.ParseError.TheVariants.{InvalidLanguage, InvalidSubtag}
-use Rattle.iloc_subtags.specs.declared.parse_error.ParseError.TheVariants.{InvalidExtension}
-use Rattle.iloc_subtags.specs.declared.parse_error.ParseError.TheVariants.{DuplicatedExtension, OutOfMemory}
+use Rattle.iloc_subtags.specs.declared.parse_error.ParseError.TheVariants.{InvalidLanguage, InvalidSubtag, InvalidExtension, DuplicatedExtension, OutOfMemory}
 use Rattle.iloc_subtags.specs.Judging.{NamesFault, RunsOutOnlyIf}
 use Rattle.iloc_langid.specs.declared.identifier.LanguageIdentifier.{LanguageIdentifier}
 use Rattle.iloc_langid.specs.Reads.{value_of as identifier_of}

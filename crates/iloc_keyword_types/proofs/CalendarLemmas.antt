@@ -1,6 +1,5 @@
 -- What one, two or three words read as, as a calendar.
-use Rattle.std.proofs.Common.{◌≡◌, ℕ, Bool, true, false, cond, ◌&&◌, List, [], ◌∷◌, ◌++◌, map, refl, sym, ap}
-use Rattle.std.proofs.Common.{◌∙◌, Option, Some, None, option_map, codes, nat_eq, ◌<◌, ◌≤◌, length, arith}
+use Rattle.std.proofs.Common.{◌≡◌, ℕ, Bool, true, false, cond, ◌&&◌, List, [], ◌∷◌, ◌++◌, map, refl, sym, ap, ◌∙◌, Option, Some, None, option_map, codes, nat_eq, ◌<◌, ◌≤◌, length, arith}
 use Rattle.std.specs.Option.{option_or}
 use Rattle.std.specs.FinMap.{find}
 use Rattle.std.specs.Ordering.{is_eq, ordering_then, eq_by_cmp}
@@ -9,8 +8,7 @@ use Rattle.std.specs.declared.cmp.Ordering.TheVariants.{Less, Equal, Greater}
 use Rattle.std.specs.Cmp.Lexicographic.{slice_cmp, pointwise, texts_ties}
 use Rattle.iloc_spec_grammar.specs.Syntax.{Text, word_cmp, is_same}
 use Rattle.iloc_spec_parts.specs.Keywords as keywords
-use Rattle.iloc_spec_parts.specs.Keywords.{EnumValue, numbered, variants, further_readings, readings}
-use Rattle.iloc_spec_parts.specs.Keywords.{hijri_kinds}
+use Rattle.iloc_spec_parts.specs.Keywords.{EnumValue, numbered, variants, further_readings, readings, hijri_kinds}
 use Rattle.iloc_keyword_types.specs.WordTables.{table_place}
 use Rattle.iloc_keyword_types.proofs.EnumLemmas.{variant, one_word, more_words, entry}
 use Rattle.iloc_keyword_types.specs.CalendarReading.{calendar_reads}

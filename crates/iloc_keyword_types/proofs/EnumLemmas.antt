@@ -1,12 +1,9 @@
 -- A keyword of which nothing but the words of its variants is read.
-use Rattle.std.proofs.Common.{◌≡◌, ℕ, zero, suc, ◌+◌, ◌<◌, Bool, true, false, cond, ◌&&◌, List, [], ◌∷◌, ◌++◌}
-use Rattle.std.proofs.Common.{map, refl, sym, ap, ◌∙◌, arith, append-nil, subst, Option, Some, None}
-use Rattle.std.proofs.Common.{option_map, option_and_then, slice_get, codes}
-use Rattle.std.specs.Option.{ok_or}
+use Rattle.std.proofs.Common.{◌≡◌, ℕ, zero, suc, ◌+◌, ◌<◌, Bool, true, false, cond, ◌&&◌, List, [], ◌∷◌, ◌++◌, map, refl, sym, ap, ◌∙◌, arith, append-nil, subst, Option, Some, None, option_map, option_and_then, slice_get, codes}
+use Rattle.std.specs.Option.{ok_or, option_cmp}
 use Rattle.std.specs.List.{list_all, AllByRecursion}
 use Rattle.std.specs.FinMap.{find}
 use Rattle.std.specs.Ordering.{nat_cmp, is_eq, ordering_then}
-use Rattle.std.specs.Option.{option_cmp}
 use Rattle.std.specs.declared.cmp.Ordering.{Ordering}
 use Rattle.std.specs.declared.cmp.Ordering.TheVariants.{Less, Equal, Greater}
 use Rattle.std.specs.Cmp.{nat_cmp_is}
@@ -17,32 +14,7 @@ use Rattle.iloc_spec_grammar.specs.Values.{IsNormal, spelled_value}
 use Rattle.iloc_spec_parts.specs.Orders.{pair_cmp}
 use Rattle.iloc_word_list.specs.Values as values
 use Rattle.iloc_spec_parts.specs.SingleValues.{single}
-use Rattle.iloc_spec_parts.specs.Keywords.{
-  EnumKeyword,
-  CalendarAlgorithm,
-  CollationType,
-  CollationCaseFirst,
-  CollationNumericOrdering,
-  CurrencyFormatStyle,
-  EmojiPresentationStyle,
-  FirstDay,
-  HourCycle,
-  LineBreakStyle,
-  LineBreakWordHandling,
-  MeasurementSystem,
-  MeasurementUnitOverride,
-  SentenceBreakSupressions,
-  CommonVariantType,
-  EnumValue,
-  numbered,
-  variants,
-  further_readings,
-  readings,
-  unspelled_value,
-  enum_reads,
-  enum_words,
-  enum_gives,
-}
+use Rattle.iloc_spec_parts.specs.Keywords.{EnumKeyword, CalendarAlgorithm, CollationType, CollationCaseFirst, CollationNumericOrdering, CurrencyFormatStyle, EmojiPresentationStyle, FirstDay, HourCycle, LineBreakStyle, LineBreakWordHandling, MeasurementSystem, MeasurementUnitOverride, SentenceBreakSupressions, CommonVariantType, EnumValue, numbered, variants, further_readings, readings, unspelled_value, enum_reads, enum_words, enum_gives}
 use Rattle.iloc_spec_parts.proofs.KeywordLaws.{reads_what_it_gives}
 use Rattle.iloc_word_list.specs.declared.errors.PreferencesParseError.TheVariants.{InvalidKeywordValue}
 use Rattle.iloc_keyword_types.specs.WordTables.{table_place, word_at}

@@ -2,8 +2,7 @@
 use Rattle.std.proofs.Common.{ℕ, Option, Result, Ok, Err}
 use Rattle.iloc_spec_grammar.specs.Syntax.{Text}
 use Rattle.iloc_word_list.specs.declared.errors.PreferencesParseError.{PreferencesParseError}
-use Rattle.iloc_word_list.specs.declared.errors.PreferencesParseError.TheVariants.{InvalidKeywordValue}
-use Rattle.iloc_word_list.specs.declared.errors.PreferencesParseError.TheVariants.{OutOfMemory}
+use Rattle.iloc_word_list.specs.declared.errors.PreferencesParseError.TheVariants.{InvalidKeywordValue, OutOfMemory}
 use Rattle.iloc_keyword_types.specs.Reads.{Reads, ReadsUnder, ReadingRunsOut}
 
 pub never_runs_out : {X V : Type 0} → (Refused : ℕ → Type 0) → (limit : ℕ) → (k q : Text)

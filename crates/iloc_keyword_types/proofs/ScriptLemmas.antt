@@ -1,7 +1,5 @@
 -- Lists of scripts, read and written one by one.
-use Rattle.std.proofs.Common.{◌≡◌, ℕ, ◌+◌, ◌<◌, ◌≤◌, List, [], ◌∷◌, ◌++◌, length, get_or, drop, refl, sym, ap}
-use Rattle.std.proofs.Common.{◌∙◌, arith, append-nil, append_assoc, true, false, true≢false, Option, Some}
-use Rattle.std.proofs.Common.{None}
+use Rattle.std.proofs.Common.{◌≡◌, ℕ, ◌+◌, ◌<◌, ◌≤◌, List, [], ◌∷◌, ◌++◌, length, get_or, drop, refl, sym, ap, ◌∙◌, arith, append-nil, append_assoc, true, false, true≢false, Option, Some, None}
 use Rattle.std.proofs.lemmas.List.{drop_all, drop_more, length_push}
 use Rattle.iloc_spec_grammar.specs.Syntax.{Text, Script, word}
 use Rattle.iloc_spec_parts.specs.Keywords.{with_first, scripts_read}

@@ -1,6 +1,5 @@
 -- The first variant with a word stands where the word does.
-use Rattle.std.proofs.Common.{◌≡◌, ℕ, Bool, true, false, cond, List, [], ◌∷◌, map, refl, ap, ◌∙◌, Option}
-use Rattle.std.proofs.Common.{Some, option_map, nat_eq, find}
+use Rattle.std.proofs.Common.{◌≡◌, ℕ, Bool, true, false, cond, List, [], ◌∷◌, map, refl, ap, ◌∙◌, Option, Some, option_map, nat_eq, find}
 use Rattle.std.specs.FinMap as table
 use Rattle.std.specs.Cmp.Lexicographic.{pointwise, texts_ties}
 use Rattle.iloc_spec_grammar.specs.Syntax.{Text, word_cmp, is_same}

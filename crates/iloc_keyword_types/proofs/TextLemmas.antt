@@ -7,8 +7,7 @@ use Rattle.iloc_subtags.specs.KindLaws.{subtag_fits}
 use Rattle.iloc_spec_grammar.specs.Syntax.{Text, Subtag, lower}
 use Rattle.iloc_spec_grammar.specs.Values.{IsNormal}
 use Rattle.iloc_spec_parts.specs.Subdivisions.{Subdivision, IsSubdivision, subdivision_text}
-use Rattle.iloc_spec_parts.proofs.SubdivisionLaws.{subdivision_back, subdivision_is_subtag}
-use Rattle.iloc_spec_parts.proofs.SubdivisionLaws.{text_of_read}
+use Rattle.iloc_spec_parts.proofs.SubdivisionLaws.{subdivision_back, subdivision_is_subtag, text_of_read}
 
 -- a lower-case region and a suffix are the text
 pub joined : (s : Subdivision) → IsSubdivision s → (a b t : Text) → t ≡ a ++ b → a ≡ lower s.region →

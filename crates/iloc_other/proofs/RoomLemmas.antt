@@ -1,6 +1,5 @@
 -- How much room is asked for at most.
-use Rattle.std.proofs.Common.{◌≡◌, ℕ, suc, ◌+◌, ◌≤◌, List, ◌∷◌, ◌++◌, length, filter, sym, ap, ◌∙◌, subst}
-use Rattle.std.proofs.Common.{arith, length-append, Result, Some}
+use Rattle.std.proofs.Common.{◌≡◌, ℕ, suc, ◌+◌, ◌≤◌, List, ◌∷◌, ◌++◌, length, filter, sym, ap, ◌∙◌, subst, arith, length-append, Result, Some}
 use Rattle.std.proofs.lemmas.List.{length-map}
 use Rattle.std.proofs.lemmas.List.Sums.{length-filter, count_by-le-length}
 use Rattle.iloc_memory.specs.Refusals.{RefusedWithin}

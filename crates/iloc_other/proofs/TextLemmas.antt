@@ -1,6 +1,5 @@
 -- Texts that are read as a part with its singleton.
-use Rattle.std.proofs.Common.{◌≡◌, ◌≢◌, ℕ, true, false, List, refl, sym, ap, ◌∙◌, subst, arith, Some, None}
-use Rattle.std.proofs.Common.{Result, Ok, Err}
+use Rattle.std.proofs.Common.{◌≡◌, ◌≢◌, ℕ, true, false, List, refl, sym, ap, ◌∙◌, subst, arith, Some, None, Result, Ok, Err}
 use Rattle.std.proofs.lemmas.Bool.Decides.{nat_tests}
 use Rattle.iloc_spec_grammar.specs.Syntax.{code_x, Text, pieces, is_other_singleton}
 use Rattle.iloc_spec_grammar.specs.Meaning as faults
@@ -8,12 +7,9 @@ use Rattle.iloc_spec_grammar.specs.Reading.{rest_of}
 use Rattle.iloc_spec_parts.specs.Fronts.{OtherRead, OtherFault, PrivateRead, PrivateFault}
 use Rattle.iloc_spec_parts.specs.Parts.{PartRead, is_letter, OtherTextFault, PrivateTextFault}
 use Rattle.iloc_subtags.specs.declared.parse_error.ParseError.{ParseError}
-use Rattle.iloc_subtags.specs.declared.parse_error.ParseError.TheVariants.{InvalidLanguage, InvalidSubtag}
-use Rattle.iloc_subtags.specs.declared.parse_error.ParseError.TheVariants.{InvalidExtension}
-use Rattle.iloc_subtags.specs.declared.parse_error.ParseError.TheVariants.{DuplicatedExtension, OutOfMemory}
+use Rattle.iloc_subtags.specs.declared.parse_error.ParseError.TheVariants.{InvalidLanguage, InvalidSubtag, InvalidExtension, DuplicatedExtension, OutOfMemory}
 use Rattle.iloc_subtags.specs.Judging.{RunsOutOnlyIf}
-use Rattle.iloc_other.specs.Reading.{PrivateReads, PrivateWantsMemory, PrivateTextReads, PrivateTextWants}
-use Rattle.iloc_other.specs.Reading.{OtherReads, OtherWantsMemory, OtherTextReads, OtherTextWants}
+use Rattle.iloc_other.specs.Reading.{PrivateReads, PrivateWantsMemory, PrivateTextReads, PrivateTextWants, OtherReads, OtherWantsMemory, OtherTextReads, OtherTextWants}
 use Rattle.iloc_other.specs.Singleton.{singleton_at}
 use Rattle.iloc_other.proofs.SingletonLemmas.{begins, part_reads, part_fault, part_other, part_none}
 

@@ -1,46 +1,5 @@
 -- Blocks of a text, one after another: what is known at each, and what one more adds.
-use Rattle.std.proofs.Common.{
-  ◌≡◌,
-  ◌≢◌,
-  ◌⊎◌,
-  inl,
-  inr,
-  ℕ,
-  ◌+◌,
-  ◌<◌,
-  ◌≤◌,
-  ◌==◌,
-  ◌&&◌,
-  ◌||◌,
-  Bool,
-  true,
-  false,
-  not,
-  cond,
-  List,
-  [],
-  ◌∷◌,
-  ◌++◌,
-  length,
-  map,
-  flat_map,
-  refl,
-  sym,
-  ap,
-  ◌∙◌,
-  arith,
-  Option,
-  Some,
-  None,
-  append_assoc,
-  append-nil,
-  length-append,
-  true≢false,
-  eq-eqb,
-  is_some,
-  ap₂,
-  ◌↔◌,
-}
+use Rattle.std.proofs.Common.{◌≡◌, ◌≢◌, ◌⊎◌, inl, inr, ℕ, ◌+◌, ◌<◌, ◌≤◌, ◌==◌, ◌&&◌, ◌||◌, Bool, true, false, not, cond, List, [], ◌∷◌, ◌++◌, length, map, flat_map, refl, sym, ap, ◌∙◌, arith, Option, Some, None, append_assoc, append-nil, length-append, true≢false, eq-eqb, is_some, ap₂, ◌↔◌}
 use Rattle.std.specs.List.{AllByRecursion, list_any}
 use Rattle.std.specs.Bool.{IsTrue, MatchBool}
 use Rattle.std.specs.Char.{is_ascii_alphanumeric, to_ascii_lowercase}
@@ -48,39 +7,14 @@ use Rattle.std.specs.Cmp.{nat_cmp_total}
 use Rattle.std.specs.Ordering.{nat_cmp, eq_by_cmp}
 use Rattle.std.specs.FinMap.{put, find, is_sorted, nat_cmp-IsAntisymmetric}
 use Rattle.std.specs.FinMap.Entries.{find-append, is_some-find}
-use Rattle.std.proofs.lemmas.Bool.{
-  and_parts,
-  and_from,
-  or_left,
-  or_right,
-  both_ways,
-  cases_lt,
-  eqb-true,
-  false_from_ne_true,
-}
+use Rattle.std.proofs.lemmas.Bool.{and_parts, and_from, or_left, or_right, both_ways, cases_lt, eqb-true, false_from_ne_true}
 use Rattle.std.proofs.lemmas.Bool.Decides.{nat_tests}
 use Rattle.std.proofs.Math.Nat.{le_antisymm}
 use Rattle.std.proofs.lemmas.List.{map-append}
 use Rattle.std.proofs.lemmas.List.Concat.{flat_map-append}
 use Rattle.std.proofs.lemmas.List.Folds.{list_any-append}
 use Rattle.std.proofs.lemmas.Simd.{map-map}
-use Rattle.iloc_spec_grammar.specs.Syntax.{
-  Text,
-  Block,
-  SpelledUnicode,
-  SpelledTransform,
-  IsAmong,
-  Fields,
-  code_t,
-  code_x,
-  front,
-  blocks,
-  first_piece,
-  is_one_byte,
-  languages,
-  lower,
-  lower_singleton,
-}
+use Rattle.iloc_spec_grammar.specs.Syntax.{Text, Block, SpelledUnicode, SpelledTransform, IsAmong, Fields, code_t, code_x, front, blocks, first_piece, is_one_byte, languages, lower, lower_singleton}
 use Rattle.iloc_spec_grammar.specs.Meaning.{InvalidExtension, InvalidSubtag, DuplicatedExtension, map_of}
 use Rattle.iloc_spec_grammar.specs.Tree.{block_pieces}
 use Rattle.iloc_spec_grammar.specs.Reading.{starts_block}
@@ -96,19 +30,7 @@ use Rattle.iloc_spec_grammar.proofs.RuleTests.{tests_block, tests_fails}
 use Rattle.iloc_outline.specs.Blocks.{AreBegun, IsBlockRead, ReadsBlocks, body_of}
 use Rattle.iloc_outline.specs.Groups.{AreGroups, IsGroup, parts_in}
 use Rattle.iloc_pieces.specs.Cursor.{IsLater, piece_left, pieces_left, whole_text}
-use Rattle.iloc_outline.specs.Parts.{
-  Part,
-  block_parts,
-  field_part,
-  in_order,
-  printed_part,
-  rank,
-  ranked,
-  transform_parts,
-  unicode_parts,
-  variant_parts,
-  word_part,
-}
+use Rattle.iloc_outline.specs.Parts.{Part, block_parts, field_part, in_order, printed_part, rank, ranked, transform_parts, unicode_parts, variant_parts, word_part}
 use Rattle.iloc_outline.specs.Reading.{IsBody, IsPrivateBody, IsTooMuch, Puts}
 use Rattle.iloc_outline.specs.Spans.{Spell}
 use Rattle.iloc_spans.specs.Spans.{held_spans}

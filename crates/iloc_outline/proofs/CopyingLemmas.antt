@@ -1,18 +1,8 @@
 -- Bytes that are copied in lower case, and letters that are raised.
-use Rattle.std.proofs.Common.{◌≡◌, ◌≢◌, ℕ, zero, suc, ◌+◌, ◌<◌, ◌≤◌, [], ◌∷◌, ◌++◌, length, take, drop}
-use Rattle.std.proofs.Common.{refl, sym, ap, ◌∙◌, arith, append_assoc, append-nil, slice_index, slice_set}
+use Rattle.std.proofs.Common.{◌≡◌, ◌≢◌, ℕ, zero, suc, ◌+◌, ◌<◌, ◌≤◌, [], ◌∷◌, ◌++◌, length, take, drop, refl, sym, ap, ◌∙◌, arith, append_assoc, append-nil, slice_index, slice_set}
 use Rattle.std.specs.Char.{to_ascii_lowercase, to_ascii_uppercase}
 use Rattle.std.proofs.Math.Seq.{take-add, take-append-add, take-nil, take-set-lt}
-use Rattle.std.proofs.lemmas.List.{
-  drop-drop,
-  drop_all,
-  get_or-take,
-  length-take-le,
-  map-append,
-  take-map,
-  take-take,
-  take_all,
-}
+use Rattle.std.proofs.lemmas.List.{drop-drop, drop_all, get_or-take, length-take-le, map-append, take-map, take-take, take_all}
 use Rattle.iloc_spec_grammar.specs.Syntax.{Text, lower, upper}
 use Rattle.iloc_outline.specs.Identifier.{raised}
 

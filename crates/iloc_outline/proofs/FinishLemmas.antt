@@ -1,43 +1,13 @@
 -- The outline of a text from that of its head: good texts, and heads that are refused.
-use Rattle.std.proofs.Common.{
-  arith,
-  ◌≡◌,
-  ℕ,
-  Bool,
-  true,
-  false,
-  List,
-  [],
-  ◌++◌,
-  length,
-  refl,
-  sym,
-  ap,
-  ◌∙◌,
-  append-nil,
-}
+use Rattle.std.proofs.Common.{arith, ◌≡◌, ℕ, Bool, true, false, List, [], ◌++◌, length, refl, sym, ap, ◌∙◌, append-nil}
 use Rattle.std.proofs.lemmas.List.{append_cancel_left}
 use Rattle.iloc_spec_grammar.specs.Syntax.{Text, Language, head, is_word, languages, pieces}
-use Rattle.iloc_spec_grammar.specs.Meaning.{
-  Fault,
-  HasIdentifierFault,
-  SpellsIdentifier,
-  normal_identifier,
-  not_a_language,
-  not_an_identifier,
-}
+use Rattle.iloc_spec_grammar.specs.Meaning.{Fault, HasIdentifierFault, SpellsIdentifier, normal_identifier, not_a_language, not_an_identifier}
 use Rattle.iloc_spec_grammar.specs.Meaning as faults
 use Rattle.iloc_spec_grammar.proofs.PiecesLaws.{pieces_nonempty}
 use Rattle.iloc_outline.specs.Blocks.{ReadsBlocks}
 use Rattle.iloc_pieces.specs.Cursor.{pieces_left, bytes_left}
-use Rattle.iloc_outline.specs.Outlines.{
-  AreHeadRead,
-  BeginsWithLanguage,
-  IsFinished,
-  IsIdentifierOutlined,
-  IsLocaleOutlined,
-  ReadsHead,
-}
+use Rattle.iloc_outline.specs.Outlines.{AreHeadRead, BeginsWithLanguage, IsFinished, IsIdentifierOutlined, IsLocaleOutlined, ReadsHead}
 use Rattle.iloc_spans.specs.Spans.{held_spans}
 use Rattle.iloc_pieces.specs.declared.place.Cursor.{Cursor}
 use Rattle.iloc_outline.specs.declared.outline.Head.TheVariants as heads
@@ -47,16 +17,7 @@ use Rattle.iloc_spans.specs.declared.spans.Spans.{Spans}
 use Rattle.iloc_subtags.specs.Judging.{Refusal}
 use Rattle.iloc_subtags.specs.declared.parse_error.ParseError.{ParseError}
 use Rattle.iloc_subtags.specs.declared.parse_error.ParseError.TheVariants.{OutOfMemory}
-use Rattle.iloc_outline.proofs.OutlineLemmas.{
-  all_head,
-  alone_in_order,
-  alone_outlined,
-  identifier_in_order,
-  identifier_outlined,
-  locale_in_order,
-  locale_outlined,
-  whole,
-}
+use Rattle.iloc_outline.proofs.OutlineLemmas.{all_head, alone_in_order, alone_outlined, identifier_in_order, identifier_outlined, locale_in_order, locale_outlined, whole}
 use Rattle.iloc_spec_grammar.proofs.SameFaults.{first_of_head}
 
 -- what holds of the outline of a text in order, and of another, holds of the finished one

@@ -1,88 +1,25 @@
 -- The front of an identifier: how it is passed, and how it is printed.
-use Rattle.std.proofs.Common.{◌≡◌, ◌≢◌, ℕ, zero, suc, ◌+◌, ◌-◌, ◌<◌, ◌≤◌, ◌==◌, Bool, true, false, cond, ◌&&◌}
-use Rattle.std.proofs.Common.{List, [], ◌∷◌, ◌++◌, length, map, take, drop, Option, Some, None, refl}
-use Rattle.std.proofs.Common.{sym, ap, ◌∙◌, subst, arith, inl, inr, append_assoc, append-nil}
+use Rattle.std.proofs.Common.{◌≡◌, ◌≢◌, ℕ, zero, suc, ◌+◌, ◌-◌, ◌<◌, ◌≤◌, ◌==◌, Bool, true, false, cond, ◌&&◌, List, [], ◌∷◌, ◌++◌, length, map, take, drop, Option, Some, None, refl, sym, ap, ◌∙◌, subst, arith, inl, inr, append_assoc, append-nil}
 use Rattle.std.specs.Prelude.{IfSome, option_map, option_to_list}
 use Rattle.std.specs.List.{list_all}
 use Rattle.std.specs.Char.{is_ascii_digit, to_ascii_lowercase, to_ascii_uppercase}
 use Rattle.std.proofs.Math.Seq.{take-append_seam}
 use Rattle.std.proofs.lemmas.Bool.{and_parts, cases_Bool, cond_both, eqb-true}
 use Rattle.std.proofs.lemmas.Bool.Decides.{nat_tests}
-use Rattle.std.proofs.lemmas.List.{
-  drop-append-le,
-  drop-drop,
-  drop_all,
-  length-append,
-  length-drop,
-  length-map,
-  length-take-le,
-  map-append,
-  take-append-drop,
-  take-append-le,
-  take_all,
-}
-use Rattle.iloc_spec_grammar.specs.Syntax.{
-  Text,
-  Kind,
-  Language,
-  Script,
-  Region,
-  IsWord,
-  is_word,
-  Bounds,
-  languages,
-  pieces,
-  first_piece,
-  join,
-  lower,
-  upper,
-  title,
-}
-use Rattle.iloc_spec_grammar.specs.Reading.{
-  front_of,
-  rest_of,
-  take_first,
-  skip_first,
-  after_script,
-  after_region,
-}
+use Rattle.std.proofs.lemmas.List.{drop-append-le, drop-drop, drop_all, length-append, length-drop, length-map, length-take-le, map-append, take-append-drop, take-append-le, take_all}
+use Rattle.iloc_spec_grammar.specs.Syntax.{Text, Kind, Language, Script, Region, IsWord, is_word, Bounds, languages, pieces, first_piece, join, lower, upper, title}
+use Rattle.iloc_spec_grammar.specs.Reading.{front_of, rest_of, take_first, skip_first, after_script, after_region}
 use Rattle.iloc_spec_grammar.proofs.PiecesLaws.{at_pieces, join-pieces}
 use Rattle.iloc_spec_grammar.proofs.ReadingLaws.{take_first_passes}
 use Rattle.iloc_spec_grammar.proofs.RawLaws.{languages_table}
-use Rattle.iloc_spec_grammar.proofs.WordsLaws.{
-  length-language,
-  length-lower,
-  length-normal,
-  length-region,
-  length-script,
-  upper-lower,
-}
+use Rattle.iloc_spec_grammar.proofs.WordsLaws.{length-language, length-lower, length-normal, length-region, length-script, upper-lower}
 use Rattle.iloc_outline.specs.Identifier.{IsFrontRead, IsAfterFront, IsOnePast, front_text, raised}
 use Rattle.iloc_pieces.specs.Cursor as cursor
-use Rattle.iloc_pieces.specs.Cursor.{
-  IsLater,
-  IsNextPiece,
-  IsPast,
-  IsSpanned,
-  piece_left,
-  pieces_left,
-  whole_text,
-}
+use Rattle.iloc_pieces.specs.Cursor.{IsLater, IsNextPiece, IsPast, IsSpanned, piece_left, pieces_left, whole_text}
 use Rattle.iloc_outline.specs.Parts.{front_pieces}
 use Rattle.iloc_outline.specs.Reading.{unless_end}
 use Rattle.iloc_pieces.specs.declared.place.Cursor.{Cursor}
-use Rattle.iloc_pieces.proofs.CursorLemmas.{
-  length_piece,
-  length_rest,
-  length_text,
-  next_at,
-  past_first,
-  past_next,
-  short_language,
-  short_word,
-  spanned_all,
-  spanned_both,
-}
+use Rattle.iloc_pieces.proofs.CursorLemmas.{length_piece, length_rest, length_text, next_at, past_first, past_next, short_language, short_word, spanned_all, spanned_both}
 
 -- ---- pieces that are passed, to another one or to the end
 

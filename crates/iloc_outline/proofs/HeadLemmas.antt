@@ -1,44 +1,13 @@
 -- What the reader of a head says: an identifier that is all of a text, or ends at a block, or why it is none.
-use Rattle.std.proofs.Common.{◌≡◌, ◌≢◌, ◌⊎◌, inl, inr, ◌≤◌, Bool, true, false, List, [], ◌∷◌, ◌++◌, length}
-use Rattle.std.proofs.Common.{map, flat_map, take, drop, None, Some, refl, sym, ap, ◌∙◌, subst, arith}
-use Rattle.std.proofs.Common.{append_assoc, length-append, true≢false}
+use Rattle.std.proofs.Common.{◌≡◌, ◌≢◌, ◌⊎◌, inl, inr, ◌≤◌, Bool, true, false, List, [], ◌∷◌, ◌++◌, length, map, flat_map, take, drop, None, Some, refl, sym, ap, ◌∙◌, subst, arith, append_assoc, length-append, true≢false}
 use Rattle.std.specs.List.{AllZip}
 use Rattle.std.proofs.lemmas.List.{append_cancel_left, take-append-drop, length-take-le}
-use Rattle.iloc_spec_grammar.specs.Syntax.{
-  Text,
-  SpelledIdentifier,
-  Language,
-  AllDifferent,
-  IsWord,
-  dashes,
-  first_piece,
-  front,
-  head,
-  identifier_pieces,
-  is_one_byte,
-  is_word,
-  join,
-  languages,
-  lower,
-  pieces,
-  word_cmp,
-}
-use Rattle.iloc_spec_grammar.specs.Meaning.{
-  IdentifierMeans,
-  SpellsIdentifier,
-  normal_identifier,
-  not_an_identifier,
-}
+use Rattle.iloc_spec_grammar.specs.Syntax.{Text, SpelledIdentifier, Language, AllDifferent, IsWord, dashes, first_piece, front, head, identifier_pieces, is_one_byte, is_word, join, languages, lower, pieces, word_cmp}
+use Rattle.iloc_spec_grammar.specs.Meaning.{IdentifierMeans, SpellsIdentifier, normal_identifier, not_an_identifier}
 use Rattle.iloc_spec_grammar.specs.Reading.{after_front, after_head, from_block, front_of, starts_block}
 use Rattle.iloc_spec_grammar.proofs.PartTexts.{join-append}
 use Rattle.iloc_spec_grammar.proofs.PiecesLaws.{at_pieces}
-use Rattle.iloc_spec_grammar.proofs.ReadingLaws.{
-  from_block_starts,
-  front-from_block,
-  refuses_more,
-  refuses_repeat,
-  starts_ends,
-}
+use Rattle.iloc_spec_grammar.proofs.ReadingLaws.{from_block_starts, front-from_block, refuses_more, refuses_repeat, starts_ends}
 use Rattle.iloc_spec_grammar.proofs.Readings.{after_language}
 use Rattle.iloc_outline.specs.Identifier.{IsAfterFront, IsFrontRead, front_text}
 use Rattle.iloc_pieces.specs.Cursor.{IsPast, piece_left, pieces_left, bytes_left, whole_text}
@@ -63,13 +32,7 @@ use Rattle.iloc_pieces.proofs.CursorLemmas.{length_text, past_past}
 use Rattle.iloc_outline.proofs.Meanings.{parts_dashes}
 use Rattle.iloc_outline.proofs.OutlineLemmas.{lower-append, lower-dashes}
 use Rattle.iloc_outline.proofs.SpansLemmas.{spell_length}
-use Rattle.iloc_outline.proofs.TransformLemmas.{
-  at_language,
-  long_front,
-  pieces_front_of,
-  variants_of,
-  words_front,
-}
+use Rattle.iloc_outline.proofs.TransformLemmas.{at_language, long_front, pieces_front_of, variants_of, words_front}
 use Rattle.iloc_outline.proofs.TransformReading.{front_is_all, pieces_front}
 use Rattle.iloc_spec_grammar.proofs.SameFaults.{first_of_head}
 

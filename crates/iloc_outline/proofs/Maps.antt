@@ -1,26 +1,5 @@
 -- Maps of entries: under other keys, with an entry put between two others, and with what is printed of each.
-use Rattle.std.proofs.Common.{
-  arith,
-  ◌≡◌,
-  ℕ,
-  ◌<◌,
-  cond,
-  true,
-  false,
-  List,
-  [],
-  ◌∷◌,
-  ◌++◌,
-  map,
-  flat_map,
-  refl,
-  ap,
-  ◌∙◌,
-  Option,
-  Some,
-  None,
-  append_assoc,
-}
+use Rattle.std.proofs.Common.{arith, ◌≡◌, ℕ, ◌<◌, cond, true, false, List, [], ◌∷◌, ◌++◌, map, flat_map, refl, ap, ◌∙◌, Option, Some, None, append_assoc}
 use Rattle.std.specs.List.{AllByRecursion}
 use Rattle.std.specs.Option.{option_or}
 use Rattle.std.specs.Ordering.{nat_cmp, eq_by_cmp, is_eq}

@@ -1,56 +1,10 @@
 -- What a text means whose head is an identifier, and its normal text; or its fault.
-use Rattle.std.proofs.Common.{
-  arith,
-  ◌≡◌,
-  inl,
-  inr,
-  true,
-  List,
-  [],
-  ◌∷◌,
-  ◌++◌,
-  map,
-  flat_map,
-  refl,
-  sym,
-  ap,
-  ◌∙◌,
-  Some,
-  None,
-  append_assoc,
-  option_to_list,
-  true≢false,
-}
+use Rattle.std.proofs.Common.{arith, ◌≡◌, inl, inr, true, List, [], ◌∷◌, ◌++◌, map, flat_map, refl, sym, ap, ◌∙◌, Some, None, append_assoc, option_to_list, true≢false}
 use Rattle.std.specs.List.{AllByRecursion, list_any}
 use Rattle.std.proofs.lemmas.List.Concat.{flat_map-append}
 use Rattle.std.proofs.lemmas.Bool.{or_left, or_right, or_cases}
-use Rattle.iloc_spec_grammar.specs.Syntax.{
-  Text,
-  SpelledIdentifier,
-  Identifier,
-  Language,
-  Variant,
-  IsWord,
-  first_piece,
-  head,
-  is_same,
-  is_word,
-  join,
-  dashes,
-  languages,
-  lower,
-  pieces,
-  tail_blocks,
-}
-use Rattle.iloc_spec_grammar.specs.Meaning.{
-  Fault,
-  HasFault,
-  HasIdentifierFault,
-  IdentifierMeans,
-  Means,
-  in_head,
-  normal_identifier,
-}
+use Rattle.iloc_spec_grammar.specs.Syntax.{Text, SpelledIdentifier, Identifier, Language, Variant, IsWord, first_piece, head, is_same, is_word, join, dashes, languages, lower, pieces, tail_blocks}
+use Rattle.iloc_spec_grammar.specs.Meaning.{Fault, HasFault, HasIdentifierFault, IdentifierMeans, Means, in_head, normal_identifier}
 use Rattle.iloc_spec_grammar.specs.Tree.{meaning}
 use Rattle.iloc_spec_grammar.specs.Values.{identifier_text, text}
 use Rattle.iloc_spec_grammar.specs.Reading.{identifier_of, written_of}

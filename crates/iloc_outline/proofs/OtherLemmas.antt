@@ -1,42 +1,13 @@
 -- Which pieces may follow `x`, and another singleton than `t` and `u`; and what their readers say.
-use Rattle.std.proofs.Common.{◌≡◌, ◌≢◌, inl, inr, ℕ, ◌+◌, ◌-◌, ◌<◌, ◌==◌, Bool, true, false, not, cond, ◌&&◌}
-use Rattle.std.proofs.Common.{◌||◌, List, [], ◌∷◌, ◌++◌, length, map, refl, sym, ap, ap₂, ◌∙◌, subst}
-use Rattle.std.proofs.Common.{arith, length-append, true≢false}
+use Rattle.std.proofs.Common.{◌≡◌, ◌≢◌, inl, inr, ℕ, ◌+◌, ◌-◌, ◌<◌, ◌==◌, Bool, true, false, not, cond, ◌&&◌, ◌||◌, List, [], ◌∷◌, ◌++◌, length, map, refl, sym, ap, ap₂, ◌∙◌, subst, arith, length-append, true≢false}
 use Rattle.std.specs.Int.{is_in_range}
 use Rattle.std.specs.List.{AllByRecursion, list_all, list_any}
 use Rattle.std.specs.Char.{to_ascii_lowercase}
 use Rattle.std.proofs.Math.Bool.{or-true, or-false}
 use Rattle.std.proofs.lemmas.Bool.{and_parts, cases_Bool, or_parts, ne_eqb}
 use Rattle.std.proofs.lemmas.List.Folds.{list_all-append, list_any-append}
-use Rattle.iloc_spec_grammar.specs.Syntax.{
-  Text,
-  code_t,
-  code_u,
-  code_x,
-  IsHyphenFree,
-  Subtag,
-  PrivateSubtag,
-  is_word,
-  IsWord,
-  IsOther,
-  IsPrivate,
-  kept,
-  languages,
-  lower,
-  front,
-  first_piece,
-  is_one_byte,
-  is_other_singleton,
-}
-use Rattle.iloc_spec_grammar.specs.Tree.{
-  Extension,
-  unicode,
-  transform,
-  other,
-  IsBlock,
-  IsExtension,
-  extension_pieces,
-}
+use Rattle.iloc_spec_grammar.specs.Syntax.{Text, code_t, code_u, code_x, IsHyphenFree, Subtag, PrivateSubtag, is_word, IsWord, IsOther, IsPrivate, kept, languages, lower, front, first_piece, is_one_byte, is_other_singleton}
+use Rattle.iloc_spec_grammar.specs.Tree.{Extension, unicode, transform, other, IsBlock, IsExtension, extension_pieces}
 use Rattle.iloc_spec_grammar.specs.Computing.{is_block}
 use Rattle.iloc_spec_grammar.proofs.PiecesLaws.{pieces_hyphen_free, pieces_nonempty}
 use Rattle.iloc_spec_grammar.proofs.Readings.{IsLong, long_between}
@@ -44,17 +15,7 @@ use Rattle.iloc_spec_grammar.proofs.ReadBack.{all_append}
 use Rattle.iloc_spec_grammar.proofs.RuleTests.{tests_all, tests_block, tests_fails, tests_word}
 use Rattle.iloc_spec_grammar.proofs.Singletons.{no_t, no_u, no_x}
 use Rattle.iloc_spec_grammar.proofs.ValuesLaws.{all_weaker, filter_all}
-use Rattle.iloc_pieces.specs.Cursor.{
-  IsEnd,
-  IsLater,
-  IsNextPiece,
-  IsPast,
-  IsSpanned,
-  piece_left,
-  pieces_left,
-  bytes_left,
-  whole_text,
-}
+use Rattle.iloc_pieces.specs.Cursor.{IsEnd, IsLater, IsNextPiece, IsPast, IsSpanned, piece_left, pieces_left, bytes_left, whole_text}
 use Rattle.iloc_outline.specs.Parts.{block_parts, printed_part, rank, singleton_part}
 use Rattle.iloc_outline.specs.Reading.{IsBody, IsPrivateBody, IsPutOther, ReadsBlock, block_span}
 use Rattle.iloc_spans.specs.Spans.{held_spans}
@@ -64,15 +25,7 @@ use Rattle.iloc_outline.specs.declared.reading.Found.TheVariants.{End, Next, Bad
 use Rattle.iloc_spans.specs.declared.spans.Spans.{Spans}
 use Rattle.iloc_pieces.proofs.CursorLemmas.{between_short, past_next, pieces_end, short_private, spanned_end}
 use Rattle.iloc_outline.proofs.SpansLemmas.{other_short}
-use Rattle.iloc_outline.proofs.BodyLemmas.{
-  front_each,
-  front_ends,
-  front_goes_on,
-  front_whole,
-  puts_one,
-  puts_singleton,
-  singleton_span,
-}
+use Rattle.iloc_outline.proofs.BodyLemmas.{front_each, front_ends, front_goes_on, front_whole, puts_one, puts_singleton, singleton_span}
 
 -- ---- good and bad blocks
 

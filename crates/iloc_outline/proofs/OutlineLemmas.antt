@@ -1,22 +1,9 @@
 -- From a head and blocks that were read to the outline of a text.
-use Rattle.std.proofs.Common.{◌≡◌, Bool, true, List, [], ◌∷◌, ◌++◌, length, map, refl, sym}
-use Rattle.std.proofs.Common.{ap, ◌∙◌, arith, None, append-nil, length-append}
+use Rattle.std.proofs.Common.{◌≡◌, Bool, true, List, [], ◌∷◌, ◌++◌, length, map, refl, sym, ap, ◌∙◌, arith, None, append-nil, length-append}
 use Rattle.std.specs.Char.{to_ascii_lowercase}
 use Rattle.std.proofs.Math.Seq.{take-length}
 use Rattle.std.proofs.lemmas.List.{map-append}
-use Rattle.iloc_spec_grammar.specs.Syntax.{
-  Text,
-  Identifier,
-  blocks,
-  dashes,
-  front,
-  head,
-  join,
-  languages,
-  lower,
-  pieces,
-  tail_blocks,
-}
+use Rattle.iloc_spec_grammar.specs.Syntax.{Text, Identifier, blocks, dashes, front, head, join, languages, lower, pieces, tail_blocks}
 use Rattle.iloc_spec_grammar.specs.Meaning.{IdentifierMeans, Means, normal_identifier}
 use Rattle.iloc_spec_grammar.specs.Tree.{meaning}
 use Rattle.iloc_spec_grammar.specs.Values.{identifier_text, text}
@@ -29,14 +16,7 @@ use Rattle.iloc_subtags.specs.declared.parse_error.ParseError.{ParseError}
 use Rattle.iloc_outline.specs.Blocks.{AreBlocksRead, ReadsBlocks}
 use Rattle.iloc_outline.specs.Identifier.{front_text}
 use Rattle.iloc_pieces.specs.Cursor.{pieces_left, whole_text}
-use Rattle.iloc_outline.specs.Outlines.{
-  Gives,
-  IsIdentifierOutlined,
-  IsLimit,
-  IsLocaleOutlined,
-  ReadsHead,
-  parts_text,
-}
+use Rattle.iloc_outline.specs.Outlines.{Gives, IsIdentifierOutlined, IsLimit, IsLocaleOutlined, ReadsHead, parts_text}
 use Rattle.iloc_outline.specs.Parts.{Part, blocks_parts, front_pieces, variant_parts}
 use Rattle.iloc_spans.specs.Spans.{held_spans}
 use Rattle.iloc_outline.specs.declared.blocks.Blocks.TheVariants.{Refused, Full}
@@ -46,15 +26,7 @@ use Rattle.iloc_outline.specs.declared.outline.Outlined.TheVariants as outlined
 use Rattle.iloc_spans.specs.declared.spans.Spans.{Spans}
 use Rattle.iloc_outline.proofs.BlocksLemmas.{blocks_behind, plain_variants}
 use Rattle.iloc_outline.proofs.BodyLemmas.{front_whole}
-use Rattle.iloc_outline.proofs.Meanings.{
-  has_fault,
-  identifier_text_is,
-  means_read,
-  parts_dashes,
-  parts_text-append,
-  refused,
-  text_is,
-}
+use Rattle.iloc_outline.proofs.Meanings.{has_fault, identifier_text_is, means_read, parts_dashes, parts_text-append, refused, text_is}
 use Rattle.iloc_outline.proofs.SpansLemmas.{spell_length}
 
 -- ---- where blocks begin

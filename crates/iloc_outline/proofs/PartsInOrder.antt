@@ -5,19 +5,7 @@ use Rattle.std.specs.Ordering.{nat_cmp}
 use Rattle.std.specs.FinMap.{nat_cmp-IsAntisymmetric}
 use Rattle.std.proofs.lemmas.List.Folds.{flat_map-map}
 use Rattle.std.proofs.lemmas.Simd.{map-map}
-use Rattle.iloc_spec_grammar.specs.Syntax.{
-  Text,
-  Fields,
-  Attribute,
-  Variant,
-  IsWord,
-  IsKeyword,
-  IsField,
-  lower,
-  word_cmp,
-  first_piece,
-  fields_pieces,
-}
+use Rattle.iloc_spec_grammar.specs.Syntax.{Text, Fields, Attribute, Variant, IsWord, IsKeyword, IsField, lower, word_cmp, first_piece, fields_pieces}
 use Rattle.iloc_spec_grammar.specs.Meaning.{map_of, set_of, normal_values, normal_fields}
 use Rattle.iloc_spec_grammar.specs.Reading.{rest_of}
 use Rattle.iloc_spec_grammar.specs.Values.{spelled_value, spelled_fields}

@@ -1,82 +1,15 @@
 -- What the parts of a good block print is what its value prints.
-use Rattle.std.proofs.Common.{
-  ◌≡◌,
-  ◌⊎◌,
-  inl,
-  inr,
-  ℕ,
-  ◌+◌,
-  ◌<◌,
-  ◌==◌,
-  Bool,
-  true,
-  false,
-  cond,
-  List,
-  [],
-  ◌∷◌,
-  ◌++◌,
-  length,
-  map,
-  flat_map,
-  refl,
-  sym,
-  ap,
-  ◌∙◌,
-  arith,
-  Option,
-  Some,
-  None,
-  option_map,
-  append_assoc,
-  length-append,
-  append-nil,
-  IfSome,
-  if◌then◌else◌,
-}
+use Rattle.std.proofs.Common.{◌≡◌, ◌⊎◌, inl, inr, ℕ, ◌+◌, ◌<◌, ◌==◌, Bool, true, false, cond, List, [], ◌∷◌, ◌++◌, length, map, flat_map, refl, sym, ap, ◌∙◌, arith, Option, Some, None, option_map, append_assoc, length-append, append-nil, IfSome, if◌then◌else◌}
 use Rattle.std.specs.Char.{is_ascii_alphanumeric, to_ascii_lowercase}
 use Rattle.std.specs.declared.cmp.Ordering.{Ordering}
 use Rattle.std.specs.FinMap.{put}
 use Rattle.std.proofs.lemmas.Bool.{ne_eqb}
 use Rattle.std.proofs.lemmas.List.{length-map}
 use Rattle.std.proofs.lemmas.List.Concat.{flat_map-append}
-use Rattle.iloc_spec_grammar.specs.Syntax.{
-  Text,
-  Block,
-  SpelledIdentifier,
-  SpelledUnicode,
-  SpelledTransform,
-  Fields,
-  IsIdentifier,
-  code_t,
-  code_u,
-  code_x,
-  lower,
-  kept,
-  is_other_singleton,
-  lower_singleton,
-  fields_pieces,
-  optional_pieces,
-  IsOther,
-  IsPrivate,
-}
-use Rattle.iloc_spec_grammar.specs.Meaning.{
-  map_of,
-  set_of,
-  normal_identifier,
-  normal_fields,
-  normal_unicode,
-  normal_transform,
-}
+use Rattle.iloc_spec_grammar.specs.Syntax.{Text, Block, SpelledIdentifier, SpelledUnicode, SpelledTransform, Fields, IsIdentifier, code_t, code_u, code_x, lower, kept, is_other_singleton, lower_singleton, fields_pieces, optional_pieces, IsOther, IsPrivate}
+use Rattle.iloc_spec_grammar.specs.Meaning.{map_of, set_of, normal_identifier, normal_fields, normal_unicode, normal_transform}
 use Rattle.iloc_spec_grammar.specs.Tree.{IsUnicodeBlock, IsTransformBlock, IsExtension}
-use Rattle.iloc_spec_grammar.specs.Values.{
-  printed_pieces,
-  spelled_fields,
-  unicode_spelling,
-  transform_spelling,
-  other_spelling,
-  private_spelling,
-}
+use Rattle.iloc_spec_grammar.specs.Values.{printed_pieces, spelled_fields, unicode_spelling, transform_spelling, other_spelling, private_spelling}
 use Rattle.iloc_spec_grammar.specs.Reading.{unicode_of, transform_of, extension_of}
 use Rattle.iloc_spec_grammar.specs.Computing.{is_block}
 use Rattle.iloc_spec_grammar.proofs.General.{all_mapped, all_of}
@@ -84,34 +17,9 @@ use Rattle.iloc_spec_grammar.proofs.ValuesLaws.{map_fixed, length-spelled_fields
 use Rattle.iloc_spec_grammar.proofs.WellRead.{all-set_of}
 use Rattle.iloc_spec_grammar.proofs.WordsLaws.{lower-lower, lower-title, lower-upper}
 use Rattle.iloc_spec_grammar.proofs.RuleTests.{tests_block, extension_read}
-use Rattle.iloc_spec_grammar.proofs.Singletons.{
-  of_u,
-  of_t,
-  of_x,
-  another,
-  kind_of,
-  lower_letter,
-  no_t,
-  no_u,
-  no_x,
-}
-use Rattle.iloc_outline.specs.Parts.{
-  Part,
-  singleton_part,
-  variant_parts,
-  optional_front,
-  optional_variants,
-  unicode_parts,
-  transform_parts,
-  block_parts,
-  printed_part,
-}
-use Rattle.iloc_outline.proofs.PartsInOrder.{
-  variants_printed,
-  attributes_printed,
-  keywords_printed,
-  values_printed,
-}
+use Rattle.iloc_spec_grammar.proofs.Singletons.{of_u, of_t, of_x, another, kind_of, lower_letter, no_t, no_u, no_x}
+use Rattle.iloc_outline.specs.Parts.{Part, singleton_part, variant_parts, optional_front, optional_variants, unicode_parts, transform_parts, block_parts, printed_part}
+use Rattle.iloc_outline.proofs.PartsInOrder.{variants_printed, attributes_printed, keywords_printed, values_printed}
 
 -- what a block prints by its value; c is its singleton in lower case
 abbrev pub spelled : ℕ → List Text → List Text

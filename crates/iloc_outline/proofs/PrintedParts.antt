@@ -1,7 +1,5 @@
 -- The parts of good blocks, by the ranks of these, print what the blocks mean.
-use Rattle.std.proofs.Common.{◌≡◌, ◌≢◌, ℕ, ◌<◌, ◌==◌, Bool, true, false, cond, List, [], ◌∷◌, ◌++◌}
-use Rattle.std.proofs.Common.{map, flat_map, filter_map, refl, sym, ap, ◌∙◌, arith, Option, Some, None}
-use Rattle.std.proofs.Common.{append_assoc, append-nil, nat_le}
+use Rattle.std.proofs.Common.{◌≡◌, ◌≢◌, ℕ, ◌<◌, ◌==◌, Bool, true, false, cond, List, [], ◌∷◌, ◌++◌, map, flat_map, filter_map, refl, sym, ap, ◌∙◌, arith, Option, Some, None, append_assoc, append-nil, nat_le}
 use Rattle.std.specs.List.{AllByRecursion}
 use Rattle.std.specs.Char.{is_ascii_alphanumeric, to_ascii_lowercase}
 use Rattle.std.specs.Ordering.{nat_cmp, eq_by_cmp, is_lt}
@@ -15,39 +13,10 @@ use Rattle.std.proofs.lemmas.List.Concat.{flat_map-append}
 use Rattle.std.proofs.lemmas.Simd.{map-map}
 use Rattle.std.proofs.lemmas.Str.Ascii.{lowercase-lowercase}
 use Rattle.std.proofs.lemmas.List.{map-append}
-use Rattle.iloc_spec_grammar.specs.Syntax.{
-  code_u,
-  Text,
-  LanguageLengths,
-  Block,
-  code_t,
-  code_x,
-  lower,
-  kept,
-  languages,
-  is_other_singleton,
-  lower_singleton,
-  tail_blocks,
-}
+use Rattle.iloc_spec_grammar.specs.Syntax.{code_u, Text, LanguageLengths, Block, code_t, code_x, lower, kept, languages, is_other_singleton, lower_singleton, tail_blocks}
 use Rattle.iloc_spec_grammar.specs.Meaning.{map_of, no_transform, no_unicode}
-use Rattle.iloc_spec_grammar.specs.Tree.{
-  Extension,
-  unicode_part,
-  transform_part,
-  private_part,
-  other_part,
-  by_singleton,
-  extensions_meaning,
-  before_t,
-  after_t,
-}
-use Rattle.iloc_spec_grammar.specs.Values.{
-  unicode_spelling,
-  transform_spelling,
-  other_spelling,
-  private_spelling,
-  extensions_spelling,
-}
+use Rattle.iloc_spec_grammar.specs.Tree.{Extension, unicode_part, transform_part, private_part, other_part, by_singleton, extensions_meaning, before_t, after_t}
+use Rattle.iloc_spec_grammar.specs.Values.{unicode_spelling, transform_spelling, other_spelling, private_spelling, extensions_spelling}
 use Rattle.iloc_spec_grammar.specs.Reading.{extension_of, extensions_in, private_in, written_of}
 use Rattle.iloc_spec_grammar.specs.Computing.{is_block, first_fault}
 use Rattle.iloc_spec_grammar.proofs.FaultLaws.{EndsAtX, tail_ends}
@@ -56,19 +25,7 @@ use Rattle.iloc_spec_grammar.proofs.MapLaws.{all-map_of, is_sorted-map_of, map_o
 use Rattle.iloc_spec_grammar.proofs.ReadBack.{all_append}
 use Rattle.iloc_spec_grammar.proofs.PartTexts.{spelling_of_parts, private_spelling_none}
 use Rattle.iloc_spec_grammar.proofs.ValuesLaws.{all_weaker}
-use Rattle.iloc_spec_grammar.proofs.Singletons.{
-  of_u,
-  of_t,
-  of_x,
-  another,
-  kind_of,
-  lower_letter,
-  no_t,
-  no_u,
-  no_x,
-  tied,
-  untied,
-}
+use Rattle.iloc_spec_grammar.proofs.Singletons.{of_u, of_t, of_x, another, kind_of, lower_letter, no_t, no_u, no_x, tied, untied}
 use Rattle.iloc_outline.specs.Parts.{Part, rank, ranked, blocks_parts, printed_part}
 use Rattle.iloc_outline.proofs.Maps.{map_of_carried, put_between, flat, flat-append, flat-last}
 use Rattle.iloc_outline.proofs.PrintedBlocks.{spelled, block_printed}

@@ -1,84 +1,18 @@
 -- What is printed of spans, piece by piece.
-use Rattle.std.proofs.Common.{
-  ◌≡◌,
-  ◌≢◌,
-  ℕ,
-  zero,
-  suc,
-  ◌+◌,
-  ◌-◌,
-  ◌<◌,
-  ◌≤◌,
-  Bool,
-  true,
-  false,
-  true≢false,
-  cond,
-  not,
-  List,
-  [],
-  ◌∷◌,
-  ◌++◌,
-  length,
-  take,
-  drop,
-  map,
-  flat_map,
-  filter,
-  refl,
-  sym,
-  ap,
-  ◌∙◌,
-  arith,
-  add-zero,
-  append_assoc,
-  append-nil,
-  slice_index,
-  slice_index_or,
-  slice_set,
-  add-one,
-}
+use Rattle.std.proofs.Common.{◌≡◌, ◌≢◌, ℕ, zero, suc, ◌+◌, ◌-◌, ◌<◌, ◌≤◌, Bool, true, false, true≢false, cond, not, List, [], ◌∷◌, ◌++◌, length, take, drop, map, flat_map, filter, refl, sym, ap, ◌∙◌, arith, add-zero, append_assoc, append-nil, slice_index, slice_index_or, slice_set, add-one}
 use Rattle.std.specs.Prelude.{codes, if◌then◌else◌}
 use Rattle.std.specs.Char.{to_ascii_lowercase}
 use Rattle.std.specs.List.{AllByRecursion, AllZip}
 use Rattle.std.proofs.Math.Seq.{take-suc}
 use Rattle.std.proofs.lemmas.Grind.{flat_map-append}
-use Rattle.std.proofs.lemmas.List.{
-  drop-drop,
-  drop-take,
-  get_or-drop,
-  get_or-take,
-  map-append,
-  take-append-drop,
-  length-append,
-  length-drop,
-  length-take-le,
-  take-take,
-  take_more_set,
-}
-use Rattle.iloc_spec_grammar.specs.Syntax.{
-  Text,
-  dashes,
-  first_piece,
-  is_other_singleton,
-  is_true,
-  kept,
-  lower,
-  pieces,
-}
+use Rattle.std.proofs.lemmas.List.{drop-drop, drop-take, get_or-drop, get_or-take, map-append, take-append-drop, length-append, length-drop, length-take-le, take-take, take_more_set}
+use Rattle.iloc_spec_grammar.specs.Syntax.{Text, dashes, first_piece, is_other_singleton, is_true, kept, lower, pieces}
 use Rattle.iloc_spec_grammar.specs.Values.{spelled_value}
 use Rattle.iloc_spec_grammar.proofs.PiecesLaws.{at_pieces, pieces-join}
 use Rattle.iloc_spec_grammar.proofs.PartTexts.{join-dashes}
 use Rattle.iloc_spec_grammar.proofs.WordsLaws.{length-lower}
 use Rattle.iloc_pieces.specs.Cursor.{IsEnd, IsNextPiece, IsShortPiece, piece_left, pieces_left, bytes_left}
-use Rattle.iloc_outline.specs.Printing.{
-  bytes_from,
-  edited_text,
-  is_kept,
-  kept_pieces,
-  printed_role,
-  span_text,
-}
+use Rattle.iloc_outline.specs.Printing.{bytes_from, edited_text, is_kept, kept_pieces, printed_role, span_text}
 use Rattle.iloc_spec_grammar.specs.Reading.{rest_of}
 use Rattle.iloc_outline.specs.Outlines.{Gives, parts_text}
 use Rattle.iloc_outline.specs.Spans.{AreShort, IsSpan}

@@ -1,6 +1,5 @@
 -- Room for spans was refused: for how many at most.
-use Rattle.std.proofs.Common.{◌≡◌, ℕ, Bool, ◌+◌, ◌≤◌, ◌++◌, ◌∷◌, [], Some, length, ap, ◌∙◌, arith}
-use Rattle.std.proofs.Common.{length-append}
+use Rattle.std.proofs.Common.{◌≡◌, ℕ, Bool, ◌+◌, ◌≤◌, ◌++◌, ◌∷◌, [], Some, length, ap, ◌∙◌, arith, length-append}
 use Rattle.iloc_memory.proofs.Within.{within_more}
 use Rattle.iloc_spans.specs.Spans.{held_spans}
 use Rattle.iloc_spans.specs.declared.span.Role.{Role}

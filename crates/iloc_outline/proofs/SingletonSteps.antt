@@ -1,29 +1,5 @@
 -- At a singleton of a text: what each step of the reader of blocks says.
-use Rattle.std.proofs.Common.{
-  ◌≡◌,
-  ℕ,
-  ◌+◌,
-  ◌-◌,
-  ◌<◌,
-  ◌≤◌,
-  Bool,
-  true,
-  false,
-  List,
-  [],
-  ◌∷◌,
-  length,
-  refl,
-  sym,
-  ap,
-  ◌∙◌,
-  subst,
-  arith,
-  Some,
-  slice_index,
-  true≢false,
-  length-append,
-}
+use Rattle.std.proofs.Common.{◌≡◌, ℕ, ◌+◌, ◌-◌, ◌<◌, ◌≤◌, Bool, true, false, List, [], ◌∷◌, length, refl, sym, ap, ◌∙◌, subst, arith, Some, slice_index, true≢false, length-append}
 use Rattle.std.specs.List.{AllByRecursion, list_any}
 use Rattle.std.specs.Char.{is_ascii_alphanumeric, to_ascii_lowercase}
 use Rattle.std.specs.Ordering.{nat_cmp, eq_by_cmp}
@@ -35,51 +11,17 @@ use Rattle.iloc_spec_grammar.specs.Reading.{rest_of, transform_of, unicode_of}
 use Rattle.iloc_spec_grammar.specs.Computing.{first_fault}
 use Rattle.iloc_spec_grammar.proofs.Singletons.{two_more, untied}
 use Rattle.iloc_subtags.specs.declared.parse_error.ParseError.{ParseError}
-use Rattle.iloc_subtags.specs.declared.parse_error.ParseError.TheVariants.{
-  InvalidExtension,
-  InvalidSubtag,
-  DuplicatedExtension,
-}
+use Rattle.iloc_subtags.specs.declared.parse_error.ParseError.TheVariants.{InvalidExtension, InvalidSubtag, DuplicatedExtension}
 use Rattle.iloc_subtags.specs.Judging.{error_of}
 use Rattle.iloc_outline.specs.Blocks.{AreBegun, IsBlockRead, body_of}
-use Rattle.iloc_pieces.specs.Cursor.{
-  IsEnd,
-  IsLater,
-  IsNextPiece,
-  IsSpanned,
-  piece_left,
-  pieces_left,
-  whole_text,
-}
+use Rattle.iloc_pieces.specs.Cursor.{IsEnd, IsLater, IsNextPiece, IsSpanned, piece_left, pieces_left, whole_text}
 use Rattle.iloc_outline.specs.Parts.{rank}
 use Rattle.iloc_outline.specs.Reading.{IsTooMuch}
 use Rattle.iloc_pieces.specs.declared.place.Cursor.{Cursor}
 use Rattle.iloc_outline.specs.declared.reading.Found.TheVariants.{End, Next, Bad, Repeated, Full}
 use Rattle.iloc_spans.specs.Spans.{held_spans}
 use Rattle.iloc_spans.specs.declared.spans.Spans.{Spans}
-use Rattle.iloc_outline.proofs.BlocksLemmas.{
-  IsAt,
-  IsBadBlock,
-  IsDone,
-  IsPlaced,
-  IsRead,
-  IsTold,
-  at_start,
-  groups_of,
-  is_bad,
-  is_placed,
-  is_second,
-  no_letter,
-  ranks,
-  read_bad,
-  read_end,
-  read_full,
-  read_next,
-  read_repeated,
-  repeats,
-  stays,
-  told,
-}
+use Rattle.iloc_outline.proofs.BlocksLemmas.{IsAt, IsBadBlock, IsDone, IsPlaced, IsRead, IsTold, at_start, groups_of, is_bad, is_placed, is_second, no_letter, ranks, read_bad, read_end, read_full, read_next, read_repeated, repeats, stays, told}
 use Rattle.iloc_outline.proofs.SpansLemmas.{spell_length}
 use Rattle.iloc_spans.proofs.HeldLemmas.{length-held}
 use Rattle.iloc_pieces.proofs.CursorLemmas.{past_first, single_short, spanned_next, spanned_none}

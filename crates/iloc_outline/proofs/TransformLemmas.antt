@@ -1,97 +1,15 @@
 -- Which pieces may follow `t`: an identifier and fields, one of both at least.
-use Rattle.std.proofs.Common.{
-  ◌≡◌,
-  ◌≢◌,
-  ◌⊎◌,
-  inl,
-  inr,
-  ℕ,
-  ◌<◌,
-  Bool,
-  true,
-  false,
-  List,
-  [],
-  ◌∷◌,
-  ◌++◌,
-  length,
-  map,
-  refl,
-  sym,
-  ap,
-  ◌∙◌,
-  arith,
-  Option,
-  Some,
-  None,
-  IfSome,
-  append_assoc,
-  true≢false,
-}
+use Rattle.std.proofs.Common.{◌≡◌, ◌≢◌, ◌⊎◌, inl, inr, ℕ, ◌<◌, Bool, true, false, List, [], ◌∷◌, ◌++◌, length, map, refl, sym, ap, ◌∙◌, arith, Option, Some, None, IfSome, append_assoc, true≢false}
 use Rattle.std.specs.List.{AllByRecursion}
 use Rattle.std.specs.Char.{to_ascii_lowercase}
 use Rattle.std.proofs.lemmas.Bool.{and_parts, and_from, ne_eqb}
 use Rattle.std.proofs.lemmas.List.{append_cancel_left}
-use Rattle.iloc_spec_grammar.specs.Syntax.{
-  Text,
-  code_t,
-  Language,
-  Variant,
-  TransformKey,
-  Attribute,
-  is_word,
-  IsWord,
-  IsField,
-  Fields,
-  SpelledIdentifier,
-  SpelledTransform,
-  HasWords,
-  IsIdentifier,
-  AllDifferent,
-  fields_pieces,
-  identifier_pieces,
-  optional_pieces,
-  transform_pieces,
-  languages,
-  first_piece,
-  front,
-  lower,
-  word_cmp,
-}
+use Rattle.iloc_spec_grammar.specs.Syntax.{Text, code_t, Language, Variant, TransformKey, Attribute, is_word, IsWord, IsField, Fields, SpelledIdentifier, SpelledTransform, HasWords, IsIdentifier, AllDifferent, fields_pieces, identifier_pieces, optional_pieces, transform_pieces, languages, first_piece, front, lower, word_cmp}
 use Rattle.iloc_spec_grammar.specs.Tree.{transform, IsBlock, IsTransformBlock}
-use Rattle.iloc_spec_grammar.specs.Reading.{
-  transform_of,
-  front_of,
-  after_front,
-  after_region,
-  from_block,
-  before_key,
-  fields_from,
-  passing,
-}
+use Rattle.iloc_spec_grammar.specs.Reading.{transform_of, front_of, after_front, after_region, from_block, before_key, fields_from, passing}
 use Rattle.iloc_spec_grammar.specs.Computing.{is_block, repeats_variant}
-use Rattle.iloc_spec_grammar.proofs.Readings.{
-  IsLong,
-  IsNoKey,
-  KeysPass,
-  transform_of-pieces,
-  language_no_key,
-  long_after_language,
-  fields_pass,
-  fields_read,
-  fields_past,
-}
-use Rattle.iloc_spec_grammar.proofs.ReadingLaws.{
-  EndsWords,
-  front_of-append,
-  after_front-append,
-  after_front-pieces,
-  front_words,
-  pieces-front_of,
-  starts_ends,
-  from_block_starts,
-  front-from_block,
-}
+use Rattle.iloc_spec_grammar.proofs.Readings.{IsLong, IsNoKey, KeysPass, transform_of-pieces, language_no_key, long_after_language, fields_pass, fields_read, fields_past}
+use Rattle.iloc_spec_grammar.proofs.ReadingLaws.{EndsWords, front_of-append, after_front-append, after_front-pieces, front_words, pieces-front_of, starts_ends, from_block_starts, front-from_block}
 use Rattle.iloc_spec_grammar.proofs.ReadBack.{fields_each, plain_fields}
 use Rattle.iloc_spec_grammar.proofs.RuleTests.{tests_block, tests_fails, tests_different, tests_denied}
 use Rattle.iloc_spec_grammar.proofs.RawLaws.{languages_table}

@@ -1,37 +1,9 @@
 -- What the reader of `t` says.
-use Rattle.std.proofs.Common.{◌≡◌, ◌≢◌, ◌⊎◌, inl, inr, ℕ, ◌+◌, ◌-◌, ◌<◌, Bool, true, false, List, []}
-use Rattle.std.proofs.Common.{◌∷◌, ◌++◌, length, map, refl, sym, ap, ◌∙◌, subst, arith, Option, Some, None}
-use Rattle.std.proofs.Common.{append_assoc, append-nil, length-append}
+use Rattle.std.proofs.Common.{◌≡◌, ◌≢◌, ◌⊎◌, inl, inr, ℕ, ◌+◌, ◌-◌, ◌<◌, Bool, true, false, List, [], ◌∷◌, ◌++◌, length, map, refl, sym, ap, ◌∙◌, subst, arith, Option, Some, None, append_assoc, append-nil, length-append}
 use Rattle.std.specs.List.{AllByRecursion}
 use Rattle.std.specs.Char.{to_ascii_lowercase}
 use Rattle.std.proofs.lemmas.List.{append_cancel_left}
-use Rattle.iloc_spec_grammar.specs.Syntax.{
-  Text,
-  code_t,
-  Language,
-  Variant,
-  TransformKey,
-  Attribute,
-  is_word,
-  IsWord,
-  IsField,
-  Fields,
-  Spelled,
-  SpelledIdentifier,
-  SpelledTransform,
-  AllDifferent,
-  fields_pieces,
-  identifier_pieces,
-  optional_pieces,
-  transform_pieces,
-  languages,
-  is_one_byte,
-  is_other_singleton,
-  first_piece,
-  front,
-  lower,
-  word_cmp,
-}
+use Rattle.iloc_spec_grammar.specs.Syntax.{Text, code_t, Language, Variant, TransformKey, Attribute, is_word, IsWord, IsField, Fields, Spelled, SpelledIdentifier, SpelledTransform, AllDifferent, fields_pieces, identifier_pieces, optional_pieces, transform_pieces, languages, is_one_byte, is_other_singleton, first_piece, front, lower, word_cmp}
 use Rattle.iloc_spec_grammar.specs.Tree.{IsTransformBlock}
 use Rattle.iloc_spec_grammar.specs.Reading.{after_front, after_region, front_of, passing}
 use Rattle.iloc_spec_grammar.proofs.PiecesLaws.{pieces_nonempty}
@@ -39,29 +11,8 @@ use Rattle.iloc_spec_grammar.proofs.Readings.{IsLong, long_attribute}
 use Rattle.iloc_spec_grammar.proofs.ReadBack.{all_append, fields_each, plain_fields}
 use Rattle.iloc_spec_grammar.proofs.WordsLaws.{length-transform_key}
 use Rattle.iloc_pieces.specs.Cursor.{IsPast, IsSpanned, piece_left, pieces_left, bytes_left, whole_text}
-use Rattle.iloc_outline.specs.Parts.{
-  field_part,
-  front_pieces,
-  in_order,
-  optional_front,
-  optional_variants,
-  rank,
-  singleton_part,
-  transform_parts,
-  variant_parts,
-}
-use Rattle.iloc_outline.specs.Reading.{
-  AreFieldsRead,
-  AreWordsRead,
-  EndsAtBlock,
-  EndsInKey,
-  IsBody,
-  Puts,
-  ReadsBlock,
-  ReadsFields,
-  ReadsWords,
-  block_span,
-}
+use Rattle.iloc_outline.specs.Parts.{field_part, front_pieces, in_order, optional_front, optional_variants, rank, singleton_part, transform_parts, variant_parts}
+use Rattle.iloc_outline.specs.Reading.{AreFieldsRead, AreWordsRead, EndsAtBlock, EndsInKey, IsBody, Puts, ReadsBlock, ReadsFields, ReadsWords, block_span}
 use Rattle.iloc_spans.specs.Spans.{held_spans}
 use Rattle.iloc_pieces.specs.declared.place.Cursor.{Cursor}
 use Rattle.iloc_outline.specs.declared.reading.Found.{Found}
@@ -69,36 +20,8 @@ use Rattle.iloc_outline.specs.declared.reading.Found.TheVariants.{End, Next, Bad
 use Rattle.iloc_spans.specs.declared.span.Role.TheVariants as roles
 use Rattle.iloc_spans.specs.declared.spans.Spans.{Spans}
 use Rattle.iloc_pieces.proofs.CursorLemmas.{past_past}
-use Rattle.iloc_outline.proofs.BodyLemmas.{
-  front_ends,
-  front_first,
-  front_goes_on,
-  front_past,
-  front_single,
-  front_whole,
-  puts_none,
-  puts_singleton,
-  puts_then,
-  some_passed,
-}
-use Rattle.iloc_outline.proofs.TransformLemmas.{
-  AreFields,
-  after_front_body,
-  alone_bad,
-  first_body,
-  front_bad,
-  long_front,
-  no_repeat,
-  pieces_front_of,
-  repeats,
-  variants_of,
-  words_front,
-  no_fields_first,
-  no_fields_key,
-  no_fields_later,
-  none_repeats,
-  transform_good,
-}
+use Rattle.iloc_outline.proofs.BodyLemmas.{front_ends, front_first, front_goes_on, front_past, front_single, front_whole, puts_none, puts_singleton, puts_then, some_passed}
+use Rattle.iloc_outline.proofs.TransformLemmas.{AreFields, after_front_body, alone_bad, first_body, front_bad, long_front, no_repeat, pieces_front_of, repeats, variants_of, words_front, no_fields_first, no_fields_key, no_fields_later, none_repeats, transform_good}
 
 -- ---- good blocks
 

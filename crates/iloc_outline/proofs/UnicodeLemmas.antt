@@ -1,63 +1,9 @@
 -- Which pieces may follow `u`: attributes and keys, one at least.
-use Rattle.std.proofs.Common.{
-  ◌≡◌,
-  ◌≢◌,
-  ◌⊎◌,
-  inl,
-  inr,
-  ℕ,
-  ◌+◌,
-  ◌-◌,
-  ◌<◌,
-  Bool,
-  true,
-  false,
-  List,
-  [],
-  ◌∷◌,
-  ◌++◌,
-  length,
-  map,
-  refl,
-  sym,
-  ap,
-  ◌∙◌,
-  subst,
-  arith,
-  append-nil,
-  length-append,
-  true≢false,
-}
+use Rattle.std.proofs.Common.{◌≡◌, ◌≢◌, ◌⊎◌, inl, inr, ℕ, ◌+◌, ◌-◌, ◌<◌, Bool, true, false, List, [], ◌∷◌, ◌++◌, length, map, refl, sym, ap, ◌∙◌, subst, arith, append-nil, length-append, true≢false}
 use Rattle.std.specs.List.{AllByRecursion}
 use Rattle.std.specs.Char.{to_ascii_lowercase}
-use Rattle.iloc_spec_grammar.specs.Syntax.{
-  Text,
-  code_t,
-  code_u,
-  UnicodeKey,
-  Attribute,
-  is_word,
-  IsWord,
-  IsKeyword,
-  Fields,
-  SpelledUnicode,
-  fields_pieces,
-  unicode_pieces,
-  languages,
-  is_one_byte,
-  is_other_singleton,
-  front,
-}
-use Rattle.iloc_spec_grammar.specs.Tree.{
-  Extension,
-  unicode,
-  transform,
-  other,
-  IsBlock,
-  IsExtension,
-  IsUnicodeBlock,
-  extension_pieces,
-}
+use Rattle.iloc_spec_grammar.specs.Syntax.{Text, code_t, code_u, UnicodeKey, Attribute, is_word, IsWord, IsKeyword, Fields, SpelledUnicode, fields_pieces, unicode_pieces, languages, is_one_byte, is_other_singleton, front}
+use Rattle.iloc_spec_grammar.specs.Tree.{Extension, unicode, transform, other, IsBlock, IsExtension, IsUnicodeBlock, extension_pieces}
 use Rattle.iloc_spec_grammar.specs.Reading.{unicode_of}
 use Rattle.iloc_spec_grammar.specs.Computing.{is_block}
 use Rattle.iloc_spec_grammar.proofs.PiecesLaws.{pieces_nonempty}
@@ -69,26 +15,8 @@ use Rattle.iloc_spec_grammar.proofs.Singletons.{no_u}
 use Rattle.iloc_spec_grammar.proofs.ValuesLaws.{all_weaker}
 use Rattle.iloc_spec_grammar.proofs.WordsLaws.{length-unicode_key}
 use Rattle.iloc_pieces.specs.Cursor.{IsPast, IsSpanned, piece_left, pieces_left, bytes_left, whole_text}
-use Rattle.iloc_outline.specs.Parts.{
-  block_parts,
-  field_part,
-  in_order,
-  rank,
-  singleton_part,
-  unicode_parts,
-  word_part,
-}
-use Rattle.iloc_outline.specs.Reading.{
-  AreFieldsRead,
-  AreWordsRead,
-  EndsAtBlock,
-  IsBody,
-  Puts,
-  ReadsBlock,
-  ReadsFields,
-  ReadsWords,
-  block_span,
-}
+use Rattle.iloc_outline.specs.Parts.{block_parts, field_part, in_order, rank, singleton_part, unicode_parts, word_part}
+use Rattle.iloc_outline.specs.Reading.{AreFieldsRead, AreWordsRead, EndsAtBlock, IsBody, Puts, ReadsBlock, ReadsFields, ReadsWords, block_span}
 use Rattle.iloc_spans.specs.Spans.{held_spans}
 use Rattle.iloc_pieces.specs.declared.place.Cursor.{Cursor}
 use Rattle.iloc_outline.specs.declared.reading.Found.{Found}
@@ -96,15 +24,7 @@ use Rattle.iloc_outline.specs.declared.reading.Found.TheVariants.{End, Next, Bad
 use Rattle.iloc_spans.specs.declared.span.Role.TheVariants as roles
 use Rattle.iloc_spans.specs.declared.spans.Spans.{Spans}
 use Rattle.iloc_pieces.proofs.CursorLemmas.{past_past}
-use Rattle.iloc_outline.proofs.BodyLemmas.{
-  front_ends,
-  front_goes_on,
-  front_single,
-  front_whole,
-  puts_singleton,
-  puts_then,
-  some_passed,
-}
+use Rattle.iloc_outline.proofs.BodyLemmas.{front_ends, front_goes_on, front_single, front_whole, puts_singleton, puts_then, some_passed}
 
 -- an attribute or a key
 abbrev pub IsUnicodeWord : Text → Type 0

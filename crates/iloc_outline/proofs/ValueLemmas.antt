@@ -1,6 +1,5 @@
 -- Values of keys: how they are printed, and how they are passed.
-use Rattle.std.proofs.Common.{◌≡◌, ℕ, ◌+◌, ◌-◌, ◌<◌, ◌≤◌, Bool, true, false, ◌||◌, List, [], ◌∷◌}
-use Rattle.std.proofs.Common.{◌++◌, length, map, refl, sym, ap, ◌∙◌, arith, length-append}
+use Rattle.std.proofs.Common.{◌≡◌, ℕ, ◌+◌, ◌-◌, ◌<◌, ◌≤◌, Bool, true, false, ◌||◌, List, [], ◌∷◌, ◌++◌, length, map, refl, sym, ap, ◌∙◌, arith, length-append}
 use Rattle.std.specs.List.{AllByRecursion, list_any}
 use Rattle.std.proofs.lemmas.Bool.{or_parts}
 use Rattle.std.proofs.lemmas.List.Folds.{list_any-append}
@@ -15,14 +14,7 @@ use Rattle.iloc_outline.specs.Reading.{IsOfField}
 use Rattle.iloc_pieces.specs.declared.place.Cursor.{Cursor}
 use Rattle.iloc_spans.specs.declared.span.Role.{Role}
 use Rattle.iloc_spans.specs.declared.span.Role.TheVariants as roles
-use Rattle.iloc_pieces.proofs.CursorLemmas.{
-  last_piece,
-  past_next,
-  past_none,
-  pieces_end,
-  short_attribute,
-  spanned_end,
-}
+use Rattle.iloc_pieces.proofs.CursorLemmas.{last_piece, past_next, past_none, pieces_end, short_attribute, spanned_end}
 
 -- ---- printing
 

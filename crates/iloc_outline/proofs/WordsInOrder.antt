@@ -1,31 +1,5 @@
 -- Words are passed one after another, and each is put where it belongs.
-use Rattle.std.proofs.Common.{
-  ◌≡◌,
-  ◌⊎◌,
-  ◌+◌,
-  ◌≤◌,
-  ℕ,
-  Bool,
-  true,
-  false,
-  ◌||◌,
-  List,
-  [],
-  ◌∷◌,
-  ◌++◌,
-  length,
-  map,
-  sym,
-  ap,
-  ◌∙◌,
-  refl,
-  subst,
-  arith,
-  inl,
-  inr,
-  length-append,
-  true≢false,
-}
+use Rattle.std.proofs.Common.{◌≡◌, ◌⊎◌, ◌+◌, ◌≤◌, ℕ, Bool, true, false, ◌||◌, List, [], ◌∷◌, ◌++◌, length, map, sym, ap, ◌∙◌, refl, subst, arith, inl, inr, length-append, true≢false}
 use Rattle.std.specs.List.{AllByRecursion, list_any}
 use Rattle.std.specs.Ordering.{nat_cmp, eq_by_cmp, is_eq}
 use Rattle.std.proofs.lemmas.Bool.{or_cases, or_left, or_right}
@@ -51,26 +25,11 @@ use Rattle.iloc_spans.specs.declared.span.Role.{Role}
 use Rattle.iloc_spans.specs.declared.span.Role.TheVariants as roles
 use Rattle.iloc_spans.specs.declared.span.Span.{Span}
 use Rattle.iloc_spans.specs.declared.spans.Spans.{Spans}
-use Rattle.iloc_outline.proofs.GatherLemmas.{
-  gathers_few,
-  gathers_none,
-  gathers_put,
-  gathers_puts,
-  gathers_there,
-}
+use Rattle.iloc_outline.proofs.GatherLemmas.{gathers_few, gathers_none, gathers_put, gathers_puts, gathers_there}
 use Rattle.iloc_pieces.proofs.CursorLemmas.{last_piece, past_next, past_none, pieces_end}
 use Rattle.iloc_outline.proofs.RoleLemmas.{short_kind}
 use Rattle.iloc_spans.proofs.HeldLemmas.{length-held}
-use Rattle.iloc_outline.proofs.WordLemmas.{
-  ends_before,
-  length-pieces_of,
-  passing_cut,
-  passing_more,
-  span_of,
-  word_fits,
-  word_next,
-  word_span,
-}
+use Rattle.iloc_outline.proofs.WordLemmas.{ends_before, length-pieces_of, passing_cut, passing_more, span_of, word_fits, word_next, word_span}
 use Rattle.iloc_pieces.proofs.WordOrder.{word_order}
 
 -- ---- words differ where their numbers do

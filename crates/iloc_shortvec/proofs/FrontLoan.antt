@@ -1,6 +1,5 @@
 -- Four cells in memory, and the loan of the first of them as a slice.
-use Rattle.std.proofs.Common.{◌≡◌, ℕ, ◌≤◌, List, [], ◌∷◌, ◌++◌, length, take, drop, refl, sym, ap, subst, ◌∙◌}
-use Rattle.std.proofs.Common.{arith, length-append, length-drop, take-append-drop}
+use Rattle.std.proofs.Common.{◌≡◌, ℕ, ◌≤◌, List, [], ◌∷◌, ◌++◌, length, take, drop, refl, sym, ap, subst, ◌∙◌, arith, length-append, length-drop, take-append-drop}
 use lib.Seq.{take_all}
 use seplogic.Ra.Ura.{Ura}
 use base.Logic.{SProp, ent, sep, ex}
@@ -8,8 +7,7 @@ use base.Fml.{Lft, GName, Share, fsep, feq, flft}
 use base.Fraction.{full_share}
 use mir.Syntax.{named}
 use mir.Val.{Val}
-use types.Kit.{Item, ‵, ◌⊛◌, some, later, ◌$◌, ◌∵◌, !, qed, by, move, drop as forget, split, fsplit, fsplit3}
-use types.Kit.{fjoin, feq_l, feq_i, use1, use2, await, pick, rewrite, group, updating, now, show, done}
+use types.Kit.{Item, ‵, ◌⊛◌, some, later, ◌$◌, ◌∵◌, !, qed, by, move, drop as forget, split, fsplit, fsplit3, fjoin, feq_l, feq_i, use1, use2, await, pick, rewrite, group, updating, now, show, done}
 use types.Logic.{Logic, sem}
 use types.Mut.{open_ref}
 use types.SemTy.{cells}

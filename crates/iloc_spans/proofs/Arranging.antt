@@ -1,7 +1,5 @@
 -- Items in the order of their numbers, and one more behind them.
-use Rattle.std.proofs.Common.{◌≡◌, ℕ, zero, suc, ◌+◌, ◌<◌, ◌≤◌, Bool, true, false, cond, List, [], ◌∷◌, ◌++◌}
-use Rattle.std.proofs.Common.{length, map, take, drop, refl, sym, ap, ◌∙◌, arith, append-nil, Some, None}
-use Rattle.std.proofs.Common.{true≢false, slice_index, inl, inr}
+use Rattle.std.proofs.Common.{◌≡◌, ℕ, zero, suc, ◌+◌, ◌<◌, ◌≤◌, Bool, true, false, cond, List, [], ◌∷◌, ◌++◌, length, map, take, drop, refl, sym, ap, ◌∙◌, arith, append-nil, Some, None, true≢false, slice_index, inl, inr}
 use Rattle.std.specs.declared.option.Option.{Option}
 use Rattle.std.specs.Option.{option_or}
 use Rattle.std.specs.Prelude.{is_some}
@@ -11,15 +9,13 @@ use Rattle.std.specs.declared.cmp.Ordering.{Ordering}
 use Rattle.std.specs.declared.cmp.Ordering.TheVariants.{Less, Equal, Greater}
 use Rattle.std.specs.Cmp.{nat_cmp_is, nat_cmp_total, ranked}
 use Rattle.std.specs.FinMap.{put, find, is_sorted, nat_cmp-IsAntisymmetric}
-use Rattle.std.specs.FinMap.Entries.{by_order, below_all, is_sorted-put, find-put, find_tied, same_entries}
-use Rattle.std.specs.FinMap.Entries.{length-put, is_some-find}
+use Rattle.std.specs.FinMap.Entries.{by_order, below_all, is_sorted-put, find-put, find_tied, same_entries, length-put, is_some-find}
 use Rattle.std.specs.FinMap.Entries as Entries
 use Rattle.std.proofs.lemmas.Bool.{and_parts, and_from, cases_lt}
 use Rattle.std.proofs.lemmas.List.{map-append, take-append-drop, drop_all}
 use Rattle.iloc_spec_grammar.specs.Syntax.{IsAmong}
 use Rattle.iloc_spec_grammar.specs.Meaning.{map_of}
-use Rattle.iloc_spec_grammar.proofs.MapLaws.{less, all-map_of, sorted-map_of, is_sorted-map_of, find-map_of}
-use Rattle.iloc_spec_grammar.proofs.MapLaws.{map_of_same}
+use Rattle.iloc_spec_grammar.proofs.MapLaws.{less, all-map_of, sorted-map_of, is_sorted-map_of, find-map_of, map_of_same}
 use Rattle.iloc_spec_grammar.proofs.SetLaws.{find-append}
 
 -- ---- numbers as keys

@@ -1,6 +1,5 @@
 -- A span is put in a tree of spans in order.
-use Rattle.std.proofs.Common.{◌≡◌, ℕ, List, [], ◌∷◌, ◌++◌, map, refl, sym, ap, ◌∙◌, Some, None, true, false}
-use Rattle.std.proofs.Common.{true≢false, cond, drop, slice_index, length, ◌+◌, ◌≤◌, arith}
+use Rattle.std.proofs.Common.{◌≡◌, ℕ, List, [], ◌∷◌, ◌++◌, map, refl, sym, ap, ◌∙◌, Some, None, true, false, true≢false, cond, drop, slice_index, length, ◌+◌, ◌≤◌, arith}
 use Rattle.std.specs.declared.option.Option.{Option}
 use Rattle.std.specs.Prelude.{is_some}
 use Rattle.std.specs.BTreeMap.{insert_entry, is_at}
@@ -14,8 +13,7 @@ use Rattle.std.specs.declared.cmp.Ordering.{Ordering}
 use Rattle.std.specs.declared.cmp.Ordering.TheVariants.{Less, Equal, Greater}
 use Rattle.iloc_spec_grammar.specs.Syntax.{IsAmong}
 use Rattle.iloc_spec_grammar.specs.Meaning.{map_of}
-use Rattle.iloc_spans.proofs.Arranging.{arranged, found_among, map_of_new, map_of_there, numbered}
-use Rattle.iloc_spans.proofs.Arranging.{numbered-arranged, numbered-more, renumbered}
+use Rattle.iloc_spans.proofs.Arranging.{arranged, found_among, map_of_new, map_of_there, numbered, numbered-arranged, numbered-more, renumbered}
 
 module _ {X : Type 0} where
   -- an entry is inserted as it is put

@@ -1,6 +1,5 @@
 -- Where spans stand, and how many they are.
-use Rattle.std.proofs.Common.{Option, ◌≡◌, ◌≢◌, ◌<◌, ◌≤◌, ℕ, Bool, if◌then◌else◌, ◌==◌, true, false}
-use Rattle.std.proofs.Common.{List, length, take, refl, sym, ap, arith}
+use Rattle.std.proofs.Common.{Option, ◌≡◌, ◌≢◌, ◌<◌, ◌≤◌, ℕ, Bool, if◌then◌else◌, ◌==◌, true, false, List, length, take, refl, sym, ap, arith}
 use Rattle.std.proofs.lemmas.Bool.Decides.{nat_tests}
 use Rattle.std.proofs.lemmas.List.{length-take-le}
 use Rattle.iloc_spans.specs.More.{more_spans}

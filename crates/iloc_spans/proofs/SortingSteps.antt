@@ -1,16 +1,11 @@
 -- One item more is put among others: of a list the first items stay, then come those in order.
-use Rattle.std.proofs.Common.{◌≡◌, ◌≢◌, ℕ, suc, ◌+◌, ◌-◌, ◌<◌, ◌≤◌, List, [], ◌∷◌, ◌++◌, length, take, drop}
-use Rattle.std.proofs.Common.{map, sym, ap, ◌∙◌, subst, arith, slice_index, slice_index_or, append_assoc}
-use Rattle.std.proofs.Common.{length-append}
+use Rattle.std.proofs.Common.{◌≡◌, ◌≢◌, ℕ, suc, ◌+◌, ◌-◌, ◌<◌, ◌≤◌, List, [], ◌∷◌, ◌++◌, length, take, drop, map, sym, ap, ◌∙◌, subst, arith, slice_index, slice_index_or, append_assoc, length-append}
 use Rattle.std.specs.Ordering.{nat_cmp}
 use Rattle.std.proofs.Math.Seq.{drop-cons, take-suc, take-append-add, drop-append-add}
 use Rattle.std.proofs.Math.ListN.{length-map}
-use Rattle.std.proofs.lemmas.List.{map-append, take-append-drop, drop-drop, length-drop, length-take-le}
-use Rattle.std.proofs.lemmas.List.{take-take, drop-take, get_or-take, get_or-append-add, get_or-drop}
-use Rattle.std.proofs.lemmas.List.{append-nil, take-map, take_all}
+use Rattle.std.proofs.lemmas.List.{map-append, take-append-drop, drop-drop, length-drop, length-take-le, take-take, drop-take, get_or-take, get_or-append-add, get_or-drop, append-nil, take-map, take_all}
 use Rattle.iloc_spec_grammar.specs.Syntax.{IsAmong}
-use Rattle.iloc_spans.proofs.Arranging.{among_none, among_there, arranged, arranged_new, arranged_there}
-use Rattle.iloc_spans.proofs.Arranging.{nth, IsPlace}
+use Rattle.iloc_spans.proofs.Arranging.{among_none, among_there, arranged, arranged_new, arranged_there, nth, IsPlace}
 
 -- a list whose first items are two lists
 module _ {X : Type 0} (now F S : List X) (made : ℕ) (is : take made now ≡ F ++ S)

@@ -1,41 +1,11 @@
 -- The laws of steps between texts, one and any number, by those of the tree.
-use Rattle.std.proofs.Common.{arith, ◌≡◌, ◌↔◌, inl, inr, ℕ, zero, suc, ◌≤◌, false, List, [], ◌∷◌, length}
-use Rattle.std.proofs.Common.{sym, ap, ◌∙◌, ◌==◌, le_of_eq, le_trans}
+use Rattle.std.proofs.Common.{arith, ◌≡◌, ◌↔◌, inl, inr, ℕ, zero, suc, ◌≤◌, false, List, [], ◌∷◌, length, sym, ap, ◌∙◌, ◌==◌, le_of_eq, le_trans}
 use Rattle.std.specs.List.{AllByRecursion}
 use Rattle.std.proofs.lemmas.Bool.{cases_Bool, cond_both, both_ways}
-use Rattle.iloc_spec_grammar.specs.Syntax.{
-  LanguageLengths,
-  Block,
-  code_x,
-  Text,
-  pieces,
-  join,
-  lower,
-  AreLengths,
-  Identifier,
-  identifier_pieces,
-  lower_singleton,
-  is_one_byte,
-  blocks,
-  head,
-  tail_blocks,
-}
-use Rattle.iloc_spec_grammar.specs.Meaning.{
-  Locale,
-  Means,
-  IdentifierMeans,
-  SpellsIdentifier,
-  normal_identifier,
-}
+use Rattle.iloc_spec_grammar.specs.Syntax.{LanguageLengths, Block, code_x, Text, pieces, join, lower, AreLengths, Identifier, identifier_pieces, lower_singleton, is_one_byte, blocks, head, tail_blocks}
+use Rattle.iloc_spec_grammar.specs.Meaning.{Locale, Means, IdentifierMeans, SpellsIdentifier, normal_identifier}
 use Rattle.iloc_spec_grammar.specs.Tree.{Extension, Written, extension_pieces, spelling, IsWritten, meaning}
-use Rattle.iloc_spec_grammar.specs.Values.{
-  text,
-  identifier_text,
-  TextStep,
-  IdentifierTextStep,
-  Leads,
-  LeadToOne,
-}
+use Rattle.iloc_spec_grammar.specs.Values.{text, identifier_text, TextStep, IdentifierTextStep, Leads, LeadToOne}
 use Rattle.iloc_spec_grammar.specs.TreeSteps.{Step, TreeIdentifierTextStep}
 use Rattle.iloc_spec_grammar.specs.Reading.{written_of, extensions_in}
 use Rattle.iloc_spec_grammar.proofs.PiecesLaws.{join-pieces}
@@ -46,29 +16,14 @@ use Rattle.iloc_spec_grammar.proofs.FaultLaws.{AreGood, good_written, pieces-wri
 use Rattle.iloc_spec_grammar.proofs.StepLaws.{identifier_step, written_step}
 use Rattle.iloc_spec_grammar.proofs.StepSizes.{step_pieces, extension_passes}
 use Rattle.iloc_spec_grammar.proofs.CaseLaws as tree
-use Rattle.iloc_spec_grammar.proofs.IdentifierTexts.{
-  identifier_text_step_means,
-  identifier_text_step_length,
-  lower-identifier_text,
-}
+use Rattle.iloc_spec_grammar.proofs.IdentifierTexts.{identifier_text_step_means, identifier_text_step_length, lower-identifier_text}
 use Rattle.iloc_spec_grammar.proofs.Canonical.{sort_identifier, identifier_order_step, canonical_identifier}
 use Rattle.iloc_spec_grammar.proofs.Chains.{Steps, seven_steps}
 use Rattle.iloc_spec_grammar.proofs.IdentifierLaws as laws
 use Rattle.iloc_spec_grammar.proofs.BlockLaws.{one_by_blocks, read_by_blocks}
-use Rattle.iloc_spec_grammar.proofs.SameMeaning.{
-  good_blocks,
-  means_by_blocks,
-  tree_means,
-  means_by_tree,
-  one_meaning,
-}
+use Rattle.iloc_spec_grammar.proofs.SameMeaning.{good_blocks, means_by_blocks, tree_means, means_by_tree, one_meaning}
 use Rattle.iloc_spec_grammar.proofs.SameText.{text_is}
-use Rattle.iloc_spec_grammar.proofs.SameSteps.{
-  tree_step,
-  spelled_step,
-  tree_identifier_step,
-  identifier_step_by_tree,
-}
+use Rattle.iloc_spec_grammar.proofs.SameSteps.{tree_step, spelled_step, tree_identifier_step, identifier_step_by_tree}
 use Rattle.iloc_spec_grammar.proofs.ReadingLaws.{front_long}
 
 -- one step

@@ -4,99 +4,15 @@ use Rattle.std.specs.List.{AllByRecursion, list_any}
 use Rattle.std.specs.Ordering.{nat_cmp, eq_by_cmp}
 use Rattle.std.specs.FinMap.{find}
 use Rattle.std.proofs.lemmas.Bool.{or_parts, false_from_ne_true}
-use Rattle.iloc_spec_grammar.specs.Syntax.{
-  LanguageLengths,
-  Block,
-  code_x,
-  code_u,
-  code_t,
-  Text,
-  pieces,
-  AreLengths,
-  Unicode,
-  Transform,
-  IsOther,
-  kept,
-  is_other_singleton,
-  lower_singleton,
-  AllDifferent,
-  head,
-  tail_blocks,
-  IsPrivate,
-}
-use Rattle.iloc_spec_grammar.specs.Tree.{
-  Extension,
-  unicode,
-  transform,
-  other,
-  Written,
-  extension_pieces,
-  extension_block,
-  blocks_of,
-  IsExtension,
-  IsWritten,
-  TreeMeans,
-  meaning,
-  extensions_meaning,
-  unicode_part,
-  transform_part,
-  private_part,
-  other_part,
-  by_singleton,
-  IsBlock,
-  HasSingleton,
-}
-use Rattle.iloc_spec_grammar.specs.Meaning.{
-  Locale,
-  Extensions,
-  SpellsIdentifier,
-  map_of,
-  no_unicode,
-  no_transform,
-  normal_unicode,
-  other_blocks,
-}
-use Rattle.iloc_spec_grammar.specs.ByBlocks.{
-  UnicodeMeans,
-  TransformMeans,
-  PrivateMeans,
-  OtherMeans,
-  grammar_rules,
-  PartIs,
-  BlocksGive,
-  MeansByBlocks,
-}
-use Rattle.iloc_spec_grammar.proofs.Readings.{
-  head-spelling,
-  blocks-spelling,
-  unicode_of-pieces,
-  transform_of-pieces,
-}
+use Rattle.iloc_spec_grammar.specs.Syntax.{LanguageLengths, Block, code_x, code_u, code_t, Text, pieces, AreLengths, Unicode, Transform, IsOther, kept, is_other_singleton, lower_singleton, AllDifferent, head, tail_blocks, IsPrivate}
+use Rattle.iloc_spec_grammar.specs.Tree.{Extension, unicode, transform, other, Written, extension_pieces, extension_block, blocks_of, IsExtension, IsWritten, TreeMeans, meaning, extensions_meaning, unicode_part, transform_part, private_part, other_part, by_singleton, IsBlock, HasSingleton}
+use Rattle.iloc_spec_grammar.specs.Meaning.{Locale, Extensions, SpellsIdentifier, map_of, no_unicode, no_transform, normal_unicode, other_blocks}
+use Rattle.iloc_spec_grammar.specs.ByBlocks.{UnicodeMeans, TransformMeans, PrivateMeans, OtherMeans, grammar_rules, PartIs, BlocksGive, MeansByBlocks}
+use Rattle.iloc_spec_grammar.proofs.Readings.{head-spelling, blocks-spelling, unicode_of-pieces, transform_of-pieces}
 use Rattle.iloc_spec_grammar.specs.Reading.{unicode_of, written_of}
 use Rattle.iloc_spec_grammar.proofs.IdentifierLaws.{one_meaning}
-use Rattle.iloc_spec_grammar.proofs.FaultLaws.{
-  AreGood,
-  good_means,
-  good_from,
-  block_rules,
-  different_by,
-  good_written,
-  pieces-written_of,
-  blocks_read,
-}
-use Rattle.iloc_spec_grammar.proofs.Singletons.{
-  tied,
-  untied,
-  self_tied,
-  IsKind,
-  of_u,
-  of_t,
-  of_x,
-  another,
-  kind_of,
-  lower_letter,
-  find_holds,
-}
+use Rattle.iloc_spec_grammar.proofs.FaultLaws.{AreGood, good_means, good_from, block_rules, different_by, good_written, pieces-written_of, blocks_read}
+use Rattle.iloc_spec_grammar.proofs.Singletons.{tied, untied, self_tied, IsKind, of_u, of_t, of_x, another, kind_of, lower_letter, find_holds}
 use Rattle.iloc_spec_grammar.proofs.General.{all_of}
 use Rattle.iloc_spec_grammar.proofs.ValuesLaws.{all_weaker, all_both}
 

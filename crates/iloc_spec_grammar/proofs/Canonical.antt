@@ -1,76 +1,18 @@
 -- Steps lead from each text of a meaning to the printed one.
-use Rattle.std.proofs.Common.{◌≡◌, ℕ, ◌<◌, Bool, true, false, cond, not, List, [], ◌∷◌, length, map, filter}
-use Rattle.std.proofs.Common.{refl, ap, ◌∙◌, arith, Option, Some, None, IfSome, option_map}
+use Rattle.std.proofs.Common.{◌≡◌, ℕ, ◌<◌, Bool, true, false, cond, not, List, [], ◌∷◌, length, map, filter, refl, ap, ◌∙◌, arith, Option, Some, None, IfSome, option_map}
 use Rattle.std.specs.Prelude.{codes}
 use Rattle.std.specs.List.{AllByRecursion, AllZip}
-use Rattle.iloc_spec_grammar.specs.Syntax.{
-  LanguageLengths,
-  Field,
-  Text,
-  Subtag,
-  is_word,
-  lower,
-  word_cmp,
-  is_true,
-  SpelledIdentifier,
-  Fields,
-  kept,
-  IsIdentifier,
-  IsField,
-  AllDifferent,
-}
-use Rattle.iloc_spec_grammar.specs.Tree.{
-  Extension,
-  unicode,
-  transform,
-  other,
-  IsExtension,
-  spelled_transform,
-  spelled_unicode,
-}
-use Rattle.iloc_spec_grammar.specs.Meaning.{
-  set_of,
-  normal_identifier,
-  normal_values,
-  normal_fields,
-  normal_unicode,
-  normal_transform,
-}
+use Rattle.iloc_spec_grammar.specs.Syntax.{LanguageLengths, Field, Text, Subtag, is_word, lower, word_cmp, is_true, SpelledIdentifier, Fields, kept, IsIdentifier, IsField, AllDifferent}
+use Rattle.iloc_spec_grammar.specs.Tree.{Extension, unicode, transform, other, IsExtension, spelled_transform, spelled_unicode}
+use Rattle.iloc_spec_grammar.specs.Meaning.{set_of, normal_identifier, normal_values, normal_fields, normal_unicode, normal_transform}
 use Rattle.iloc_spec_grammar.specs.Values.{lower_identifier, spelled_value, spelled_fields, Without}
-use Rattle.iloc_spec_grammar.specs.TreeSteps.{
-  TreeLessTrue,
-  keys_differ,
-  Repeats,
-  Trues,
-  DroppedPieces,
-  VariantOrder,
-  AttributeOrder,
-  FieldOrder,
-  TreeIdentifierStep,
-  ExtensionStep,
-}
+use Rattle.iloc_spec_grammar.specs.TreeSteps.{TreeLessTrue, keys_differ, Repeats, Trues, DroppedPieces, VariantOrder, AttributeOrder, FieldOrder, TreeIdentifierStep, ExtensionStep}
 use Rattle.iloc_spec_grammar.proofs.WordsLaws.{lower-lower, lower-title, lower-upper}
 use Rattle.iloc_spec_grammar.proofs.MapLaws.{map_of_sorted, word_cmp_total, same_words}
-use Rattle.iloc_spec_grammar.proofs.ValuesLaws.{
-  set_of_ascending,
-  lower_twice,
-  same_identifier,
-  filter_all,
-  all_weaker,
-  ascend_as_keys,
-}
+use Rattle.iloc_spec_grammar.proofs.ValuesLaws.{set_of_ascending, lower_twice, same_identifier, filter_all, all_weaker, ascend_as_keys}
 use Rattle.iloc_spec_grammar.proofs.Orders.{all_reordered, all_repeats}
 use Rattle.iloc_spec_grammar.proofs.CaseLaws.{low, low_fields, low_extension}
-use Rattle.iloc_spec_grammar.proofs.Sorting.{
-  sort,
-  reordered-sort,
-  sorted-sort,
-  dedup,
-  without-dedup,
-  different-dedup,
-  without-filter,
-  filter-passes,
-}
+use Rattle.iloc_spec_grammar.proofs.Sorting.{sort, reordered-sort, sorted-sort, dedup, without-dedup, different-dedup, without-filter, filter-passes}
 use Rattle.std.specs.Cmp.{Equal-is}
 use Rattle.iloc_spec_grammar.proofs.General.{option_map-then, zip_map, all_of, all_mapped, map-same}
 use Rattle.std.proofs.lemmas.Simd.{map-map}

@@ -1,22 +1,6 @@
 -- Reading doesn't see the case of letters.
 use Rattle.iloc_spec_grammar.specs.Syntax.{IsPrivate, LanguageLengths, Field, Block, code_x, Text, pieces, join, Kind, is_word, AreLengths, lower, word_cmp, SpelledIdentifier, Fields, kept, lower_singleton, front, blocks, head, tail_blocks, first_piece}
-use Rattle.iloc_spec_grammar.specs.Tree.{
-  IsExtension,
-  Extension,
-  unicode,
-  transform,
-  other,
-  Written,
-  spelling,
-  IsWritten,
-  unicode_part,
-  transform_part,
-  private_part,
-  other_part,
-  by_singleton,
-  meaning,
-  TreeMeans,
-}
+use Rattle.iloc_spec_grammar.specs.Tree.{IsExtension, Extension, unicode, transform, other, Written, spelling, IsWritten, unicode_part, transform_part, private_part, other_part, by_singleton, meaning, TreeMeans}
 use Rattle.std.proofs.Common.{◌≡◌, ℕ, ◌&&◌, is_some, ◌≤◌, Bool, ◌==◌, List, [], ◌∷◌, length, map, filter_map, refl, sym, ap, ap₂, ◌∙◌, subst, arith, Option, Some, None, option_map}
 use Rattle.std.specs.List.{slice_split, onto_first, list_all}
 use Rattle.std.specs.Char.{to_ascii_lowercase}
@@ -28,44 +12,12 @@ use Rattle.iloc_spec_grammar.specs.Meaning.{map_of, normal_identifier, normal_va
 use Rattle.iloc_spec_grammar.specs.Values.{lower_identifier}
 use Rattle.iloc_spec_grammar.specs.TreeSteps.{TreeTextStep}
 use Rattle.std.proofs.lemmas.List.{length-map}
-use Rattle.iloc_spec_grammar.specs.Computing.{
-  holds_if_some,
-  all_different,
-  is_identifier,
-  is_keyword,
-  is_private,
-  is_extension,
-}
-use Rattle.iloc_spec_grammar.proofs.RuleTests.{
-  Tests,
-  tests_and,
-  tests_like,
-  tests_all,
-  tests_if_some,
-  tests_different,
-  tests_nat,
-  tests_identifier,
-  tests_private,
-  tests_extension,
-}
+use Rattle.iloc_spec_grammar.specs.Computing.{holds_if_some, all_different, is_identifier, is_keyword, is_private, is_extension}
+use Rattle.iloc_spec_grammar.proofs.RuleTests.{Tests, tests_and, tests_like, tests_all, tests_if_some, tests_different, tests_nat, tests_identifier, tests_private, tests_extension}
 use Rattle.iloc_spec_grammar.proofs.General.{cond-map, map-then, option_map-then, list_all-mapped}
 use Rattle.iloc_spec_grammar.proofs.WordsLaws.{lower-lower, length-lower, is_word-lower}
 use Rattle.iloc_spec_grammar.proofs.ValuesLaws.{lower_twice, normal-lower_identifier}
-use Rattle.iloc_spec_grammar.specs.Reading.{
-  take_first,
-  skip_first,
-  rest_of,
-  identifier_of,
-  before_key,
-  fields_from,
-  unicode_of,
-  transform_of,
-  optional_of,
-  extension_of,
-  extensions_in,
-  private_in,
-  written_of,
-}
+use Rattle.iloc_spec_grammar.specs.Reading.{take_first, skip_first, rest_of, identifier_of, before_key, fields_from, unicode_of, transform_of, optional_of, extension_of, extensions_in, private_in, written_of}
 use Rattle.iloc_spec_grammar.proofs.Readings.{written_of-spelling, one_meaning}
 use Rattle.iloc_spec_grammar.proofs.StepSizes.{step_means, step_length}
 pub use Rattle.iloc_spec_grammar.proofs.FaultLaws.{spelling-written_of}

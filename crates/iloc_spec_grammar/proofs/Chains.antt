@@ -9,64 +9,11 @@ use Rattle.std.specs.FinMap.Entries.{same_entries}
 use Rattle.std.proofs.lemmas.Bool.{cases_eq, lt-ltb}
 use Rattle.std.proofs.lemmas.List.{map-append, length-map}
 use Rattle.std.proofs.lemmas.Str.Ascii.{lowercase-lowercase}
-use Rattle.iloc_spec_grammar.specs.Syntax.{
-  LanguageLengths,
-  Block,
-  code_x,
-  code_u,
-  code_t,
-  Text,
-  join,
-  lower,
-  SpelledIdentifier,
-  Identifier,
-  Fields,
-  identifier_pieces,
-  fields_pieces,
-  lower_singleton,
-  IsPrivate,
-}
-use Rattle.iloc_spec_grammar.specs.Tree.{
-  Extension,
-  unicode,
-  transform,
-  other,
-  Written,
-  extension_pieces,
-  extension_block,
-  block_pieces,
-  blocks_of,
-  spelling,
-  IsExtension,
-  IsWritten,
-  unicode_part,
-  transform_part,
-  private_part,
-  other_part,
-  by_singleton,
-  meaning,
-  IsTreeWellFormed,
-  private_form,
-  printed,
-  tree_text,
-  spelled_transform,
-  spelled_unicode,
-}
+use Rattle.iloc_spec_grammar.specs.Syntax.{LanguageLengths, Block, code_x, code_u, code_t, Text, join, lower, SpelledIdentifier, Identifier, Fields, identifier_pieces, fields_pieces, lower_singleton, IsPrivate}
+use Rattle.iloc_spec_grammar.specs.Tree.{Extension, unicode, transform, other, Written, extension_pieces, extension_block, block_pieces, blocks_of, spelling, IsExtension, IsWritten, unicode_part, transform_part, private_part, other_part, by_singleton, meaning, IsTreeWellFormed, private_form, printed, tree_text, spelled_transform, spelled_unicode}
 use Rattle.iloc_spec_grammar.specs.Meaning.{normal_identifier}
 use Rattle.iloc_spec_grammar.specs.Values.{IsValue, lower_identifier}
-use Rattle.iloc_spec_grammar.specs.TreeSteps.{
-  TreeRule,
-  Repeats,
-  Trues,
-  DroppedPieces,
-  VariantOrder,
-  AttributeOrder,
-  FieldOrder,
-  TreeIdentifierStep,
-  ExtensionStep,
-  Step,
-  written,
-}
+use Rattle.iloc_spec_grammar.specs.TreeSteps.{TreeRule, Repeats, Trues, DroppedPieces, VariantOrder, AttributeOrder, FieldOrder, TreeIdentifierStep, ExtensionStep, Step, written}
 use Rattle.iloc_spec_grammar.proofs.WordsLaws.{lower-lower}
 use Rattle.iloc_spec_grammar.proofs.MapLaws.{find-map_of, to_T}
 use Rattle.iloc_spec_grammar.proofs.ValuesLaws.{lower_twice, length-spelled_fields, same_identifier, all_both}
@@ -74,36 +21,9 @@ use Rattle.iloc_spec_grammar.proofs.ReadBack as back
 use Rattle.iloc_spec_grammar.proofs.WellRead.{written_value, written_well_formed}
 use Rattle.iloc_spec_grammar.proofs.Orders.{all_reordered}
 use Rattle.iloc_spec_grammar.proofs.StepLaws.{written_step, extension_step}
-use Rattle.iloc_spec_grammar.proofs.CaseLaws.{
-  low,
-  low_fields,
-  low_extension,
-  low_entry,
-  low_entries,
-  low_block,
-  low_written,
-}
+use Rattle.iloc_spec_grammar.proofs.CaseLaws.{low, low_fields, low_extension, low_entry, low_entries, low_block, low_written}
 use Rattle.iloc_spec_grammar.proofs.Sorting.{sort, reordered-sort, sorted-sort}
-use Rattle.iloc_spec_grammar.proofs.Canonical.{
-  sort_identifier,
-  without_repeats,
-  without_trues,
-  without_dropped,
-  with_sorted_variants,
-  with_sorted_attributes,
-  with_sorted_fields,
-  repeats_step,
-  trues_step,
-  dropped_step,
-  variant_order_step,
-  attribute_order_step,
-  field_order_step,
-  identifier_order_step,
-  keys_differ_then,
-  IsCanonical,
-  canonical,
-  canonical_identifier,
-}
+use Rattle.iloc_spec_grammar.proofs.Canonical.{sort_identifier, without_repeats, without_trues, without_dropped, with_sorted_variants, with_sorted_attributes, with_sorted_fields, repeats_step, trues_step, dropped_step, variant_order_step, attribute_order_step, field_order_step, identifier_order_step, keys_differ_then, IsCanonical, canonical, canonical_identifier}
 use Rattle.iloc_spec_grammar.proofs.Singletons.{untied, find_holds}
 use Rattle.iloc_spec_grammar.proofs.General.{map-then, option_map-then, zip_map, all_mapped}
 use Rattle.std.proofs.lemmas.Simd.{map-map}

@@ -1,26 +1,14 @@
 -- The answers of the plain programs are the meaning and the fault of a text.
 use Rattle.std.proofs.Common.{◌≡◌, ℕ, Bool, ap, subst, Result, Ok, Err, MatchResult, ◌↔◌}
 use Rattle.iloc_spec_grammar.specs.Syntax.{LanguageLengths, Text, pieces, AreLengths, Identifier}
-use Rattle.iloc_spec_grammar.specs.Meaning.{
-  Locale,
-  Means,
-  IdentifierMeans,
-  Fault,
-  HasFault,
-  HasIdentifierFault,
-}
+use Rattle.iloc_spec_grammar.specs.Meaning.{Locale, Means, IdentifierMeans, Fault, HasFault, HasIdentifierFault}
 use Rattle.iloc_spec_grammar.specs.Tree.{TreeMeans}
 use Rattle.iloc_spec_grammar.specs.Computing.{identifier_result, locale_result}
 use Rattle.iloc_spec_grammar.proofs.PiecesLaws.{at_pieces}
 use Rattle.iloc_spec_grammar.proofs.IdentifierLaws.{one_meaning}
 use Rattle.iloc_spec_grammar.proofs.SameMeaning.{tree_means, means_by_tree}
 use Rattle.iloc_spec_grammar.proofs.SameFaults.{answered, means_answered, fault_answered}
-use Rattle.iloc_spec_grammar.proofs.IdentifierTexts.{
-  IdentifierAnswers,
-  identifier_answers,
-  identifier_apart,
-  one_identifier_fault,
-}
+use Rattle.iloc_spec_grammar.proofs.IdentifierTexts.{IdentifierAnswers, identifier_answers, identifier_apart, one_identifier_fault}
 
 abbrev Answers : (ℕ → Bool) → Text → Result Locale Fault → Type 0
 Answers T t r = MatchResult r (Means T t) (HasFault T t)

@@ -5,18 +5,7 @@ use Rattle.iloc_spec_grammar.specs.Syntax.{is_same, SpelledIdentifier}
 use Rattle.iloc_spec_grammar.specs.Tree.{unicode, transform, other}
 use Rattle.iloc_spec_grammar.proofs.MapLaws.{same_is, same_itself}
 use Rattle.iloc_spec_grammar.proofs.RuleTests.{Tests, tests_and, tests_like, tests_nat}
-use Rattle.iloc_spec_grammar.specs.StepTests.{
-  DecidesEquality,
-  all_zip,
-  option_zip,
-  block_zip,
-  same_words,
-  same_field,
-  same_fields,
-  same_but_variants,
-  same_identifier,
-  same_extension,
-}
+use Rattle.iloc_spec_grammar.specs.StepTests.{DecidesEquality, all_zip, option_zip, block_zip, same_words, same_field, same_fields, same_but_variants, same_identifier, same_extension}
 
 pub iff_from_tests : {b : Bool} {P : Type 0} → Tests b P → IsTrue b ↔ P
 iff_from_tests t = (t.holds, t.passes)

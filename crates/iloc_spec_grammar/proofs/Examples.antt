@@ -1,48 +1,16 @@
 -- Worked examples, computed by the plain programs: texts, and steps between them.
-use Rattle.std.proofs.Common.{◌≡◌, ◌∷◌, refl, codes, Result, Err, arith, None, Bool, true, false, true≢false}
-use Rattle.std.proofs.Common.{[], Ok, ℕ, sym, ap, ◌∙◌}
-use Rattle.iloc_spec_grammar.specs.Syntax.{
-  code_t,
-  Text,
-  pieces,
-  join,
-  is_word,
-  lower,
-  upper,
-  title,
-  is_true,
-  languages,
-  SpelledIdentifier,
-  Identifier,
-  is_same,
-}
+use Rattle.std.proofs.Common.{◌≡◌, ◌∷◌, refl, codes, Result, Err, arith, None, Bool, true, false, true≢false, [], Ok, ℕ, sym, ap, ◌∙◌}
+use Rattle.iloc_spec_grammar.specs.Syntax.{code_t, Text, pieces, join, is_word, lower, upper, title, is_true, languages, SpelledIdentifier, Identifier, is_same}
 use Rattle.iloc_spec_grammar.specs.Tree.{transform, meaning}
 use Rattle.iloc_spec_grammar.specs.Meaning.{Locale, Fault, Means}
 use Rattle.iloc_spec_grammar.specs.Values.{TextStep, extensions_spelling, identifier_text, Without, Leads}
-use Rattle.iloc_spec_grammar.specs.TreeSteps.{
-  keys_differ,
-  Trues,
-  TreeIdentifierStep,
-  ExtensionStep,
-  Step,
-  TreeTextStep,
-}
+use Rattle.iloc_spec_grammar.specs.TreeSteps.{keys_differ, Trues, TreeIdentifierStep, ExtensionStep, Step, TreeTextStep}
 use Rattle.iloc_spec_grammar.specs.Reading.{identifier_of, front_of, unicode_of, transform_of, written_of}
-use Rattle.iloc_spec_grammar.specs.Computing.{
-  locale_result,
-  computed_text,
-  identifier_result,
-  identifier_text_of,
-}
+use Rattle.iloc_spec_grammar.specs.Computing.{locale_result, computed_text, identifier_result, identifier_text_of}
 use Rattle.iloc_spec_grammar.specs.Examples.{Normalises, IsRefused, NormalisesIdentifier, IsRefusedIdentifier}
 use Rattle.iloc_spec_grammar.proofs.RawLaws.{languages_table}
 use Rattle.iloc_spec_grammar.proofs.SameSteps.{step_by_tree}
-use Rattle.iloc_spec_grammar.proofs.ComputingLaws.{
-  computed_means,
-  computed_fault,
-  computed_identifier,
-  computed_identifier_fault,
-}
+use Rattle.iloc_spec_grammar.proofs.ComputingLaws.{computed_means, computed_fault, computed_identifier, computed_identifier_fault}
 use Rattle.iloc_spec_grammar.proofs.AnySteps.{chain_means}
 use Rattle.iloc_spec_grammar.specs.StepTests.{is_text_step}
 use Rattle.iloc_spec_grammar.proofs.TextTests.{tests_text_step}

@@ -1,182 +1,23 @@
 -- A text is a locale or has exactly one fault.
-use Rattle.std.proofs.Common.{
-  ◌≡◌,
-  ◌⊎◌,
-  inl,
-  inr,
-  ℕ,
-  Bool,
-  true,
-  false,
-  cond,
-  not,
-  ◌&&◌,
-  ◌==◌,
-  List,
-  [],
-  ◌∷◌,
-  ◌++◌,
-  map,
-  flat_map,
-  refl,
-  sym,
-  ap,
-  ◌∙◌,
-  arith,
-  Option,
-  Some,
-  None,
-  IfSome,
-  MatchOption,
-  Result,
-  Ok,
-  Err,
-  MatchResult,
-  option_to_list,
-  append_assoc,
-  append-nil,
-}
+use Rattle.std.proofs.Common.{◌≡◌, ◌⊎◌, inl, inr, ℕ, Bool, true, false, cond, not, ◌&&◌, ◌==◌, List, [], ◌∷◌, ◌++◌, map, flat_map, refl, sym, ap, ◌∙◌, arith, Option, Some, None, IfSome, MatchOption, Result, Ok, Err, MatchResult, option_to_list, append_assoc, append-nil}
 use Rattle.std.specs.List.{AllByRecursion, list_any}
 use Rattle.std.specs.Char.{is_ascii_alphanumeric, to_ascii_lowercase}
 use Rattle.std.specs.Ordering.{nat_cmp, eq_by_cmp}
 use Rattle.std.specs.declared.cmp.Ordering.{Ordering}
-use Rattle.std.proofs.lemmas.Bool.{
-  or_from,
-  or_parts,
-  cond_both,
-  both_ways,
-  eqb-false,
-  cases_Bool,
-  false_from_ne_true,
-}
+use Rattle.std.proofs.lemmas.Bool.{or_from, or_parts, cond_both, both_ways, eqb-false, cases_Bool, false_from_ne_true}
 use Rattle.std.proofs.lemmas.Bool.Decides.{nat_tests}
 use Rattle.std.proofs.lemmas.List.{map-append}
 use Rattle.std.proofs.lemmas.List.Folds.{list_any-append}
-use Rattle.iloc_spec_grammar.specs.Syntax.{
-  LanguageLengths,
-  Block,
-  code_x,
-  code_t,
-  Text,
-  pieces,
-  Language,
-  Script,
-  Region,
-  Variant,
-  TransformKey,
-  is_word,
-  IsWord,
-  AreLengths,
-  lower,
-  word_cmp,
-  SpelledIdentifier,
-  SpelledTransform,
-  identifier_pieces,
-  optional_pieces,
-  transform_pieces,
-  HasWords,
-  IsIdentifier,
-  lower_singleton,
-  AllDifferent,
-  front,
-  blocks,
-  head,
-  tail_blocks,
-  first_piece,
-  IsPrivate,
-}
-use Rattle.iloc_spec_grammar.specs.Tree.{
-  Extension,
-  Written,
-  extension_block,
-  block_pieces,
-  blocks_of,
-  spelling,
-  IsTransformBlock,
-  IsExtension,
-  IsWritten,
-  TreeMeans,
-  meaning,
-  HasSingleton,
-  IsNew,
-  IsBlock,
-  TreeBlockFault,
-  no_singleton,
-  duplicated,
-  breaks_rule,
-  FirstBadBlock,
-  here,
-  later,
-  HasTreeFault,
-  no_language,
-  no_identifier,
-  bad_block,
-}
-use Rattle.iloc_spec_grammar.specs.Meaning.{
-  Locale,
-  Fault,
-  InvalidLanguage,
-  InvalidSubtag,
-  InvalidExtension,
-  DuplicatedExtension,
-  SpellsIdentifier,
-  RepeatsVariant,
-}
-use Rattle.iloc_spec_grammar.specs.Reading.{
-  passing,
-  past,
-  identifier_of,
-  front_of,
-  after_front,
-  before_key,
-  extensions_in,
-  private_in,
-  written_of,
-}
-use Rattle.iloc_spec_grammar.specs.Computing.{
-  is_identifier,
-  is_block,
-  repeats_variant,
-  first_fault,
-  unless_fault,
-  locale_result,
-}
+use Rattle.iloc_spec_grammar.specs.Syntax.{LanguageLengths, Block, code_x, code_t, Text, pieces, Language, Script, Region, Variant, TransformKey, is_word, IsWord, AreLengths, lower, word_cmp, SpelledIdentifier, SpelledTransform, identifier_pieces, optional_pieces, transform_pieces, HasWords, IsIdentifier, lower_singleton, AllDifferent, front, blocks, head, tail_blocks, first_piece, IsPrivate}
+use Rattle.iloc_spec_grammar.specs.Tree.{Extension, Written, extension_block, block_pieces, blocks_of, spelling, IsTransformBlock, IsExtension, IsWritten, TreeMeans, meaning, HasSingleton, IsNew, IsBlock, TreeBlockFault, no_singleton, duplicated, breaks_rule, FirstBadBlock, here, later, HasTreeFault, no_language, no_identifier, bad_block}
+use Rattle.iloc_spec_grammar.specs.Meaning.{Locale, Fault, InvalidLanguage, InvalidSubtag, InvalidExtension, DuplicatedExtension, SpellsIdentifier, RepeatsVariant}
+use Rattle.iloc_spec_grammar.specs.Reading.{passing, past, identifier_of, front_of, after_front, before_key, extensions_in, private_in, written_of}
+use Rattle.iloc_spec_grammar.specs.Computing.{is_identifier, is_block, repeats_variant, first_fault, unless_fault, locale_result}
 use Rattle.iloc_spec_grammar.proofs.WordsLaws.{region_no_script, variant_no_script, variant_no_region}
 use Rattle.iloc_spec_grammar.proofs.IdentifierLaws.{pieces-identifier_of, identifier_of-pieces}
-use Rattle.iloc_spec_grammar.proofs.ReadingLaws.{
-  all_while,
-  take_first_passes,
-  keep_while_passes,
-  front_words,
-  pieces-front_of,
-}
-use Rattle.iloc_spec_grammar.proofs.Readings.{
-  identifier_no_key,
-  optional_no_key,
-  fields_pass,
-  before_key_read,
-  is_no_x,
-  head-spelling,
-  blocks-spelling,
-  pieces-extension_of,
-  pieces-transform_of,
-  written_of-spelling,
-}
-use Rattle.iloc_spec_grammar.proofs.RuleTests.{
-  Tests,
-  tests_not,
-  tests_fails,
-  tests_denied,
-  tests_word,
-  tests_and,
-  tests_like,
-  tests_different,
-  tests_nat,
-  tests_spelled,
-  tests_block,
-  identifier_read,
-  extension_read,
-}
+use Rattle.iloc_spec_grammar.proofs.ReadingLaws.{all_while, take_first_passes, keep_while_passes, front_words, pieces-front_of}
+use Rattle.iloc_spec_grammar.proofs.Readings.{identifier_no_key, optional_no_key, fields_pass, before_key_read, is_no_x, head-spelling, blocks-spelling, pieces-extension_of, pieces-transform_of, written_of-spelling}
+use Rattle.iloc_spec_grammar.proofs.RuleTests.{Tests, tests_not, tests_fails, tests_denied, tests_word, tests_and, tests_like, tests_different, tests_nat, tests_spelled, tests_block, identifier_read, extension_read}
 use Rattle.iloc_spec_grammar.proofs.PiecesLaws.{at_pieces}
 use Rattle.iloc_spec_grammar.proofs.Singletons.{tied_back, untied, two_more}
 use Rattle.iloc_spec_grammar.proofs.General.{all_of}

@@ -1,6 +1,5 @@
 -- Lists, options and tests of any kind.
-use Rattle.std.proofs.Common.{arith, ◌≡◌, Bool, true, false, cond, List, [], ◌∷◌, map, refl, ap₂, ◌∙◌, Option, Some}
-use Rattle.std.proofs.Common.{None, IfSome, option_map}
+use Rattle.std.proofs.Common.{arith, ◌≡◌, Bool, true, false, cond, List, [], ◌∷◌, map, refl, ap₂, ◌∙◌, Option, Some, None, IfSome, option_map}
 use Rattle.std.specs.List.{AllByRecursion, AllZip, list_all, list_any}
 use Rattle.std.proofs.lemmas.List.Folds.{list_all-map}
 use Rattle.std.proofs.lemmas.Simd.{map-map}

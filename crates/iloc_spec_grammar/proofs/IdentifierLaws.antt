@@ -1,18 +1,7 @@
 -- The words of an identifier can be told apart: each spelling has one reading.
-use Rattle.std.proofs.Common.{arith, ◌≡◌, ℕ, Bool, List, [], ◌∷◌, ◌++◌, refl}
-use Rattle.std.proofs.Common.{Option, Some, None, IfSome, option_to_list}
+use Rattle.std.proofs.Common.{arith, ◌≡◌, ℕ, Bool, List, [], ◌∷◌, ◌++◌, refl, Option, Some, None, IfSome, option_to_list}
 use Rattle.std.specs.List.{AllByRecursion}
-use Rattle.iloc_spec_grammar.specs.Syntax.{
-  Text,
-  Script,
-  Region,
-  Variant,
-  IsWord,
-  SpelledIdentifier,
-  Identifier,
-  identifier_pieces,
-  HasWords,
-}
+use Rattle.iloc_spec_grammar.specs.Syntax.{Text, Script, Region, Variant, IsWord, SpelledIdentifier, Identifier, identifier_pieces, HasWords}
 use Rattle.iloc_spec_grammar.specs.Reading.{take_first, skip_first, identifier_of}
 use Rattle.iloc_spec_grammar.specs.Meaning.{IdentifierMeans}
 use Rattle.iloc_spec_grammar.proofs.WordsLaws.{region_no_script, variant_no_script, variant_no_region}

@@ -1,44 +1,13 @@
 -- Texts of identifiers: reading them back, the two steps between texts of one meaning, and faults.
-use Rattle.std.proofs.Common.{◌≡◌, ◌⊎◌, ℕ, ◌+◌, Bool, true, false, cond, not, List, ◌∷◌, length, refl, sym}
-use Rattle.std.proofs.Common.{ap, ◌∙◌, arith, ◌↔◌, true≢false, Result, Ok, Err, MatchResult}
-use Rattle.iloc_spec_grammar.specs.Syntax.{
-  LanguageLengths,
-  Text,
-  pieces,
-  join,
-  Language,
-  is_word,
-  lower,
-  Stage,
-  IdentifierOf,
-  SpelledIdentifier,
-  Identifier,
-  identifier_pieces,
-  HasWords,
-  head,
-  front,
-}
-use Rattle.iloc_spec_grammar.specs.Meaning.{
-  normal_identifier,
-  IdentifierMeans,
-  Fault,
-  InvalidLanguage,
-  InvalidSubtag,
-  HasIdentifierFault,
-  not_a_language,
-  not_an_identifier,
-}
+use Rattle.std.proofs.Common.{◌≡◌, ◌⊎◌, ℕ, ◌+◌, Bool, true, false, cond, not, List, ◌∷◌, length, refl, sym, ap, ◌∙◌, arith, ◌↔◌, true≢false, Result, Ok, Err, MatchResult}
+use Rattle.iloc_spec_grammar.specs.Syntax.{LanguageLengths, Text, pieces, join, Language, is_word, lower, Stage, IdentifierOf, SpelledIdentifier, Identifier, identifier_pieces, HasWords, head, front}
+use Rattle.iloc_spec_grammar.specs.Meaning.{normal_identifier, IdentifierMeans, Fault, InvalidLanguage, InvalidSubtag, HasIdentifierFault, not_a_language, not_an_identifier}
 use Rattle.iloc_spec_grammar.specs.Values.{IsIdentifierValue, lower_identifier, identifier_text}
 use Rattle.iloc_spec_grammar.specs.Tree.{spelled_identifier}
 use Rattle.iloc_spec_grammar.specs.TreeSteps.{TreeIdentifierTextStep}
 use Rattle.iloc_spec_grammar.proofs.WordsLaws.{length-lower}
 use Rattle.iloc_spec_grammar.proofs.PiecesLaws.{pieces-join, join-pieces, at_pieces}
-use Rattle.iloc_spec_grammar.proofs.IdentifierLaws.{
-  pieces-identifier_of,
-  identifier_of-pieces,
-  one_identifier,
-  one_meaning,
-}
+use Rattle.iloc_spec_grammar.proofs.IdentifierLaws.{pieces-identifier_of, identifier_of-pieces, one_identifier, one_meaning}
 use Rattle.iloc_spec_grammar.specs.Reading.{identifier_of}
 use Rattle.iloc_spec_grammar.proofs.ValuesLaws.{identifier_reads_back, normal-lower_identifier, value_words}
 use Rattle.iloc_spec_grammar.proofs.WellRead.{identifier_value}

@@ -1,6 +1,5 @@
 -- The tests of what a step does to a list.
-use Rattle.std.proofs.Common.{◌≡◌, ◌⊎◌, inl, inr, ℕ, ◌+◌, ◌<◌, Bool, true, false, cond, ◌||◌, List, [], ◌∷◌}
-use Rattle.std.proofs.Common.{refl, sym, subst, arith, true≢false}
+use Rattle.std.proofs.Common.{◌≡◌, ◌⊎◌, inl, inr, ℕ, ◌+◌, ◌<◌, Bool, true, false, cond, ◌||◌, List, [], ◌∷◌, refl, sym, subst, arith, true≢false}
 use Rattle.std.specs.List.{list_any, AllZip}
 use Rattle.std.proofs.lemmas.Bool.{and_parts, and_from}
 use Rattle.iloc_spec_grammar.specs.Syntax.{Text, lower}
@@ -8,14 +7,7 @@ use Rattle.iloc_spec_grammar.specs.Values.{Reordered, Without, WithoutRepeats}
 use Rattle.iloc_spec_grammar.proofs.Orders.{total, total_reordered}
 use Rattle.iloc_spec_grammar.proofs.Sorting.{itself}
 use Rattle.iloc_spec_grammar.proofs.RuleTests.{Tests, tests_and, tests_either, tests_like}
-use Rattle.iloc_spec_grammar.specs.StepTests.{
-  all_zip,
-  take_out,
-  is_reordered,
-  is_without,
-  was_seen,
-  is_without_repeats,
-}
+use Rattle.iloc_spec_grammar.specs.StepTests.{all_zip, take_out, is_reordered, is_without, was_seen, is_without_repeats}
 use Rattle.iloc_spec_grammar.proofs.Equality.{Equality, never}
 
 tests_itself : (b : Bool) → Tests b (b ≡ true)

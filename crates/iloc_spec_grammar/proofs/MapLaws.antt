@@ -1,20 +1,12 @@
 -- The map of a list of entries, and the set of a list of words.
-use Rattle.std.proofs.Common.{arith, ◌≡◌, Bool, true, false, cond, T, List, [], ◌∷◌, map, refl, sym, ap}
-use Rattle.std.proofs.Common.{◌∙◌, Some, true≢false}
+use Rattle.std.proofs.Common.{arith, ◌≡◌, Bool, true, false, cond, T, List, [], ◌∷◌, map, refl, sym, ap, ◌∙◌, Some, true≢false}
 use Rattle.std.specs.List.{AllByRecursion, list_any}
 use Rattle.std.specs.Ordering.{is_lt, is_eq, eq_by_cmp}
 use Rattle.std.specs.declared.cmp.Ordering.{Ordering}
 use Rattle.std.specs.declared.cmp.Ordering.TheVariants.{Less, Equal, Greater}
 use Rattle.std.specs.Cmp.{IsTotalOrder, Equal-is, tied_itself}
 use Rattle.std.specs.Cmp.Lexicographic.{nat_list_cmp_total}
-use Rattle.std.specs.FinMap.{
-  put,
-  find,
-  is_sorted,
-  IsAntisymmetric,
-  nat_cmp-IsAntisymmetric,
-  slice_cmp-IsAntisymmetric,
-}
+use Rattle.std.specs.FinMap.{put, find, is_sorted, IsAntisymmetric, nat_cmp-IsAntisymmetric, slice_cmp-IsAntisymmetric}
 use Rattle.std.specs.FinMap.Entries.{below_all, is_sorted-put, find-put, same_entries}
 use Rattle.std.proofs.lemmas.Bool.{and_parts, both_ways}
 use Rattle.iloc_spec_grammar.specs.Syntax.{Text, word_cmp, is_same, AllDifferent}

@@ -1,108 +1,17 @@
 -- The tests of what a step does to the parts of a written locale, and to the whole.
-use Rattle.std.proofs.Common.{
-  arith,
-  ◌≡◌,
-  inl,
-  inr,
-  ℕ,
-  ◌<◌,
-  Bool,
-  true,
-  false,
-  not,
-  ◌&&◌,
-  List,
-  [],
-  ◌∷◌,
-  length,
-  Option,
-  Some,
-  None,
-  nat_lt,
-  refl,
-  sym,
-  subst,
-  true≢false,
-}
+use Rattle.std.proofs.Common.{arith, ◌≡◌, inl, inr, ℕ, ◌<◌, Bool, true, false, not, ◌&&◌, List, [], ◌∷◌, length, Option, Some, None, nat_lt, refl, sym, subst, true≢false}
 use Rattle.std.specs.List.{AllZip, list_any}
 use Rattle.std.proofs.lemmas.Bool.{and_parts, and_from, or_cases, or_left, or_right}
 use Rattle.std.proofs.Math.Bool.{or-true}
-use Rattle.iloc_spec_grammar.specs.Syntax.{
-  Field,
-  Text,
-  Subtag,
-  is_word,
-  is_same,
-  SpelledIdentifier,
-  SpelledUnicode,
-  Fields,
-}
+use Rattle.iloc_spec_grammar.specs.Syntax.{Field, Text, Subtag, is_word, is_same, SpelledIdentifier, SpelledUnicode, Fields}
 use Rattle.iloc_spec_grammar.specs.Tree.{Extension, unicode, transform, other, Written}
 use Rattle.iloc_spec_grammar.specs.Values.{Reordered, WithoutRepeats}
-use Rattle.iloc_spec_grammar.specs.TreeSteps.{
-  TreeLessTrue,
-  keys_differ,
-  TreeRule,
-  VariantOrder,
-  AttributeOrder,
-  FieldOrder,
-  Repeats,
-  Trues,
-  DroppedPieces,
-  TreeIdentifierStep,
-  ExtensionStep,
-  Step,
-}
-use Rattle.iloc_spec_grammar.proofs.RuleTests.{
-  Tests,
-  tests_and,
-  tests_like,
-  tests_different,
-  tests_positive,
-  tests_nat,
-}
+use Rattle.iloc_spec_grammar.specs.TreeSteps.{TreeLessTrue, keys_differ, TreeRule, VariantOrder, AttributeOrder, FieldOrder, Repeats, Trues, DroppedPieces, TreeIdentifierStep, ExtensionStep, Step}
+use Rattle.iloc_spec_grammar.proofs.RuleTests.{Tests, tests_and, tests_like, tests_different, tests_positive, tests_nat}
 use Rattle.iloc_spec_grammar.proofs.Sorting.{itself}
-use Rattle.iloc_spec_grammar.specs.StepTests.{
-  all_zip,
-  option_zip,
-  block_zip,
-  same_words,
-  same_fields,
-  same_identifier,
-  same_extension,
-  has_less_true,
-  are_fields_reordered,
-  are_fields_without_repeats,
-  is_identifier_step,
-  is_unicode_step,
-  is_fields_step,
-  is_other_step,
-  is_change,
-  is_extension_step,
-  rules,
-  is_block_order,
-  is_step_by,
-  is_step,
-}
-use Rattle.iloc_spec_grammar.proofs.Equality.{
-  word_equality,
-  words_equality,
-  field_equality,
-  fields_equality,
-  FrontsEqual,
-  fronts_equality,
-  identifier_equality,
-  optional_equality,
-  extension_equality,
-  block_equality,
-  private_equality,
-}
-use Rattle.iloc_spec_grammar.proofs.ListTests.{
-  tests_zip,
-  tests_reordered,
-  tests_without,
-  tests_without_repeats,
-}
+use Rattle.iloc_spec_grammar.specs.StepTests.{all_zip, option_zip, block_zip, same_words, same_fields, same_identifier, same_extension, has_less_true, are_fields_reordered, are_fields_without_repeats, is_identifier_step, is_unicode_step, is_fields_step, is_other_step, is_change, is_extension_step, rules, is_block_order, is_step_by, is_step}
+use Rattle.iloc_spec_grammar.proofs.Equality.{word_equality, words_equality, field_equality, fields_equality, FrontsEqual, fronts_equality, identifier_equality, optional_equality, extension_equality, block_equality, private_equality}
+use Rattle.iloc_spec_grammar.proofs.ListTests.{tests_zip, tests_reordered, tests_without, tests_without_repeats}
 
 -- fields
 

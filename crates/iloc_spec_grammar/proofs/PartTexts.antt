@@ -1,46 +1,12 @@
 -- Texts of parts: the text of a locale is the join of its parts.
-use Rattle.std.proofs.Common.{◌≡◌, ℕ, ◌+◌, ◌<◌, ◌≤◌, arith, get_or, cond, ◌||◌, List, []}
-use Rattle.std.proofs.Common.{◌∷◌, ◌++◌, length, map, flat_map, refl, sym, ap, ◌∙◌, Option, Some, None}
-use Rattle.std.proofs.Common.{option_map, option_to_list, is_some, nat_lt, append_assoc, append-nil}
+use Rattle.std.proofs.Common.{◌≡◌, ℕ, ◌+◌, ◌<◌, ◌≤◌, arith, get_or, cond, ◌||◌, List, [], ◌∷◌, ◌++◌, length, map, flat_map, refl, sym, ap, ◌∙◌, Option, Some, None, option_map, option_to_list, is_some, nat_lt, append_assoc, append-nil}
 use Rattle.std.proofs.lemmas.Bool.{lt-ltb}
 use Rattle.std.proofs.lemmas.List.{map-append}
 use Rattle.std.proofs.lemmas.List.Concat.{flat_map-append}
-use Rattle.iloc_spec_grammar.specs.Syntax.{
-  Block,
-  code_x,
-  code_u,
-  code_t,
-  Text,
-  join,
-  dashes,
-  lower,
-  Stage,
-  IdentifierOf,
-  Identifier,
-  Unicode,
-  Transform,
-  Fields,
-  identifier_pieces,
-  optional_pieces,
-  fields_pieces,
-  unicode_pieces,
-  transform_pieces,
-}
+use Rattle.iloc_spec_grammar.specs.Syntax.{Block, code_x, code_u, code_t, Text, join, dashes, lower, Stage, IdentifierOf, Identifier, Unicode, Transform, Fields, identifier_pieces, optional_pieces, fields_pieces, unicode_pieces, transform_pieces}
 use Rattle.iloc_spec_grammar.specs.Tree.{before_t, after_t, spelled_transform}
 use Rattle.iloc_spec_grammar.specs.Meaning.{Locale, Extensions}
-use Rattle.iloc_spec_grammar.specs.Values.{
-  lower_identifier,
-  spelled_fields,
-  printed_pieces,
-  before_above,
-  text,
-  unicode_spelling,
-  transform_spelling,
-  other_spelling,
-  private_spelling,
-  extensions_spelling,
-  identifier_text,
-}
+use Rattle.iloc_spec_grammar.specs.Values.{lower_identifier, spelled_fields, printed_pieces, before_above, text, unicode_spelling, transform_spelling, other_spelling, private_spelling, extensions_spelling, identifier_text}
 
 -- joins
 

@@ -1,28 +1,11 @@
 -- Raw forms: as long as the longest word, and read back. The tables keep to what is asked of tables.
-use Rattle.std.proofs.Common.{◌≡◌, ℕ, zero, suc, ◌+◌, ◌-◌, ◌≤◌, Bool, true, false, ◌==◌, [], ◌∷◌, ◌++◌}
-use Rattle.std.proofs.Common.{length, replicate, refl, sym, ap, ◌∙◌, arith, append_assoc, length-append}
+use Rattle.std.proofs.Common.{◌≡◌, ℕ, zero, suc, ◌+◌, ◌-◌, ◌≤◌, Bool, true, false, ◌==◌, [], ◌∷◌, ◌++◌, length, replicate, refl, sym, ap, ◌∙◌, arith, append_assoc, length-append}
 use Rattle.std.specs.List.{list_any}
 use Rattle.std.specs.Char.{is_ascii_alphanumeric}
 use Rattle.std.proofs.lemmas.Bool.{and_parts, or_parts}
 use Rattle.std.proofs.lemmas.Bool.Decides.{nat_tests}
 use Rattle.std.proofs.lemmas.List.{length-replicate, replicate-append-replicate}
-use Rattle.iloc_spec_grammar.specs.Syntax.{
-  Text,
-  Kind,
-  Language,
-  AreLengths,
-  two_or_three,
-  languages,
-  is_word,
-  IsWord,
-  EndsAt,
-  greatest,
-  Bounds,
-  raw,
-  wide_raw,
-  narrow_raw,
-  before_zero,
-}
+use Rattle.iloc_spec_grammar.specs.Syntax.{Text, Kind, Language, AreLengths, two_or_three, languages, is_word, IsWord, EndsAt, greatest, Bounds, raw, wide_raw, narrow_raw, before_zero}
 use Rattle.iloc_spec_grammar.proofs.WordsLaws.{word_letters_or_digits}
 use Rattle.iloc_spec_grammar.proofs.General.{none_passes}
 

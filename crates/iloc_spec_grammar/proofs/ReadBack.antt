@@ -6,77 +6,19 @@ use Rattle.std.specs.Char.{is_ascii_alphanumeric, to_ascii_lowercase}
 use Rattle.std.specs.Ordering.{nat_cmp, eq_by_cmp, is_lt}
 use Rattle.std.specs.FinMap.{is_sorted, find}
 use Rattle.std.specs.FinMap.Entries.{below_all}
-use Rattle.std.proofs.lemmas.Bool.{
-  and_parts,
-  and_from,
-  or_from,
-  leb-true,
-  leb-false,
-  lt-ltb,
-  ltb-true,
-  cond_both,
-}
+use Rattle.std.proofs.lemmas.Bool.{and_parts, and_from, or_from, leb-true, leb-false, lt-ltb, ltb-true, cond_both}
 use Rattle.std.proofs.lemmas.Bool.Decides.{nat_tests}
 use Rattle.std.proofs.lemmas.List.Elements.{filter_map-append}
 use Rattle.std.proofs.lemmas.List.Concat.{flat_map-append}
 use Rattle.std.proofs.lemmas.List.{map-append}
-use Rattle.iloc_spec_grammar.specs.Syntax.{
-  LanguageLengths,
-  Block,
-  code_x,
-  code_u,
-  code_t,
-  Text,
-  pieces,
-  join,
-  IsHyphenFree,
-  Kind,
-  Language,
-  Script,
-  Region,
-  Variant,
-  Subtag,
-  UnicodeKey,
-  TransformKey,
-  Attribute,
-  PrivateSubtag,
-  is_word,
-  IsWord,
-  SpelledIdentifier,
-  Unicode,
-  Transform,
-  Fields,
-  identifier_pieces,
-  optional_pieces,
-  fields_pieces,
-  HasWords,
-  IsIdentifier,
-  IsField,
-  kept,
-  is_other_singleton,
-  lower_singleton,
-  AllDifferent,
-  IsPrivate,
-}
+use Rattle.iloc_spec_grammar.specs.Syntax.{LanguageLengths, Block, code_x, code_u, code_t, Text, pieces, join, IsHyphenFree, Kind, Language, Script, Region, Variant, Subtag, UnicodeKey, TransformKey, Attribute, PrivateSubtag, is_word, IsWord, SpelledIdentifier, Unicode, Transform, Fields, identifier_pieces, optional_pieces, fields_pieces, HasWords, IsIdentifier, IsField, kept, is_other_singleton, lower_singleton, AllDifferent, IsPrivate}
 use Rattle.iloc_spec_grammar.specs.Tree.{Extension, unicode, transform, other, Written, extension_pieces, block_pieces, extension_block, spelling, IsExtension, IsWritten, unicode_part, transform_part, private_part, other_part, by_singleton, meaning, TreeMeans, IsTreeWellFormed, others_form, private_form, before_t, after_t, printed, tree_text, spelled_transform, spelled_unicode}
 use Rattle.iloc_spec_grammar.specs.Meaning.{Locale, normal_unicode, normal_transform}
 use Rattle.iloc_spec_grammar.specs.Values.{IsNormal, IsValue, lower_identifier, spelled_fields}
 use Rattle.iloc_spec_grammar.proofs.WordsLaws.{word_letters_or_digits}
 use Rattle.iloc_spec_grammar.proofs.PiecesLaws.{pieces-join}
 use Rattle.iloc_spec_grammar.proofs.MapLaws.{map_of_sorted, sorted_different}
-use Rattle.iloc_spec_grammar.proofs.ValuesLaws.{
-  all_weaker,
-  all_both,
-  map_fixed,
-  filter_all,
-  value_identifier,
-  normal_value,
-  value_unicode,
-  normal_value_unicode,
-  value_transform,
-  normal_value_transform,
-  length-spelled_fields,
-}
+use Rattle.iloc_spec_grammar.proofs.ValuesLaws.{all_weaker, all_both, map_fixed, filter_all, value_identifier, normal_value, value_unicode, normal_value_unicode, value_transform, normal_value_transform, length-spelled_fields}
 use Rattle.iloc_spec_grammar.proofs.Singletons.{untied, no_t, no_u}
 use Rattle.iloc_spec_grammar.proofs.General.{cond-map, none_passes}
 

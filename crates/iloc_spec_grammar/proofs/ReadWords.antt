@@ -2,14 +2,7 @@
 use Rattle.std.proofs.Common.{arith, ◌≡◌, ◌↔◌, false, length, refl, ap, ◌∙◌, Some, Ok, Err}
 use Rattle.iloc_spec_grammar.specs.Syntax.{Text, Kind, is_word, IsWord, normal, lower, word, read}
 use Rattle.iloc_spec_grammar.specs.Values.{IsNormal}
-use Rattle.iloc_spec_grammar.proofs.WordsLaws.{
-  normal-normal,
-  is_word-normal,
-  is_word-same,
-  length-normal,
-  normal-lower,
-  same_normal,
-}
+use Rattle.iloc_spec_grammar.proofs.WordsLaws.{normal-normal, is_word-normal, is_word-same, length-normal, normal-lower, same_normal}
 use Rattle.std.proofs.lemmas.Option.{cond_some}
 
 pub accepted_from_word : (k : Kind) (p w : Text) → word k p ≡ Some w → IsWord k p × (normal k p ≡ w)

@@ -1,78 +1,14 @@
 -- The reading from the left takes what is spelled, and nothing else.
-use Rattle.std.proofs.Common.{
-  ◌≡◌,
-  ◌≢◌,
-  ℕ,
-  ◌≤◌,
-  Bool,
-  true,
-  false,
-  List,
-  [],
-  ◌∷◌,
-  ◌++◌,
-  length,
-  map,
-  refl,
-  sym,
-  ap,
-  ◌∙◌,
-  arith,
-  Option,
-  Some,
-  None,
-  IfSome,
-  option_to_list,
-  append_assoc,
-  append-nil,
-  length-append,
-}
+use Rattle.std.proofs.Common.{◌≡◌, ◌≢◌, ℕ, ◌≤◌, Bool, true, false, List, [], ◌∷◌, ◌++◌, length, map, refl, sym, ap, ◌∙◌, arith, Option, Some, None, IfSome, option_to_list, append_assoc, append-nil, length-append}
 use Rattle.std.specs.List.{AllByRecursion}
 use Rattle.std.proofs.lemmas.List.{append_cancel_left, append_cancel_right}
 use Rattle.std.proofs.lemmas.Bool.{false_from_ne_true, cond_both}
 use Rattle.std.proofs.lemmas.Bool.Decides.{nat_tests}
-use Rattle.iloc_spec_grammar.specs.Syntax.{
-  LanguageLengths,
-  Text,
-  Language,
-  Script,
-  Region,
-  Variant,
-  is_word,
-  IsWord,
-  lower,
-  word_cmp,
-  SpelledIdentifier,
-  identifier_pieces,
-  HasWords,
-  AllDifferent,
-  is_one_byte,
-  front,
-  first_piece,
-}
+use Rattle.iloc_spec_grammar.specs.Syntax.{LanguageLengths, Text, Language, Script, Region, Variant, is_word, IsWord, lower, word_cmp, SpelledIdentifier, identifier_pieces, HasWords, AllDifferent, is_one_byte, front, first_piece}
 use Rattle.iloc_spec_grammar.specs.Meaning.{IdentifierMeans, normal_identifier, SpellsIdentifier}
-use Rattle.iloc_spec_grammar.specs.Reading.{
-  take_first,
-  skip_first,
-  passing,
-  past,
-  front_of,
-  after_front,
-  from_block,
-  starts_block,
-  EndsBefore,
-  IdentifierFront,
-  identifier_of,
-}
+use Rattle.iloc_spec_grammar.specs.Reading.{take_first, skip_first, passing, past, front_of, after_front, from_block, starts_block, EndsBefore, IdentifierFront, identifier_of}
 use Rattle.iloc_spec_grammar.proofs.IdentifierLaws.{all_pieces, identifier_of-pieces}
-use Rattle.iloc_spec_grammar.proofs.WordsLaws.{
-  region_no_script,
-  variant_no_script,
-  variant_no_region,
-  length-script,
-  length-region,
-  length-variant,
-}
+use Rattle.iloc_spec_grammar.proofs.WordsLaws.{region_no_script, variant_no_script, variant_no_region, length-script, length-region, length-variant}
 use Rattle.iloc_spec_grammar.proofs.General.{cond-map}
 
 abbrev Passes : (Text → Bool) → Text → Type 0

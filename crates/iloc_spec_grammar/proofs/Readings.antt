@@ -1,124 +1,18 @@
 -- Each spelling has one reading: blocks end at pieces of one byte, and fields at keys.
-use Rattle.std.proofs.Common.{
-  ◌≡◌,
-  ◌≢◌,
-  ℕ,
-  ◌≤◌,
-  Bool,
-  true,
-  false,
-  ◌==◌,
-  List,
-  [],
-  ◌∷◌,
-  ◌++◌,
-  length,
-  map,
-  flat_map,
-  refl,
-  ap,
-  ◌∙◌,
-  arith,
-  Option,
-  Some,
-  None,
-  IfSome,
-  option_to_list,
-  slice_index,
-  append-nil,
-}
+use Rattle.std.proofs.Common.{◌≡◌, ◌≢◌, ℕ, ◌≤◌, Bool, true, false, ◌==◌, List, [], ◌∷◌, ◌++◌, length, map, flat_map, refl, ap, ◌∙◌, arith, Option, Some, None, IfSome, option_to_list, slice_index, append-nil}
 use Rattle.std.specs.List.{AllByRecursion, list_all}
 use Rattle.std.specs.Char.{is_ascii_alphabetic, is_ascii_digit}
 use Rattle.std.proofs.lemmas.Bool.{and_parts, false_from_ne_true, or_cases, ne_eqb, eqb-true}
 use Rattle.std.proofs.lemmas.Bool.Decides.{nat_tests}
 use Rattle.std.specs.Int.{is_in_range}
-use Rattle.iloc_spec_grammar.specs.Syntax.{
-  LanguageLengths,
-  Block,
-  code_x,
-  Text,
-  Language,
-  Script,
-  Region,
-  Variant,
-  UnicodeKey,
-  TransformKey,
-  Attribute,
-  is_word,
-  IsWord,
-  AreLengths,
-  SpelledIdentifier,
-  SpelledUnicode,
-  SpelledTransform,
-  Fields,
-  identifier_pieces,
-  optional_pieces,
-  fields_pieces,
-  unicode_pieces,
-  transform_pieces,
-  HasWords,
-  IsIdentifier,
-  IsKeyword,
-  IsField,
-  IsUnicode,
-  IsTransform,
-  lower_singleton,
-  is_one_byte,
-  front,
-  blocks,
-  head,
-  tail_blocks,
-  IsPrivate,
-}
-use Rattle.iloc_spec_grammar.specs.Tree.{
-  Extension,
-  unicode,
-  transform,
-  other,
-  Written,
-  extension_pieces,
-  extension_block,
-  block_pieces,
-  blocks_of,
-  spelling,
-  IsUnicodeBlock,
-  IsTransformBlock,
-  IsExtension,
-  IsWritten,
-  TreeMeans,
-}
+use Rattle.iloc_spec_grammar.specs.Syntax.{LanguageLengths, Block, code_x, Text, Language, Script, Region, Variant, UnicodeKey, TransformKey, Attribute, is_word, IsWord, AreLengths, SpelledIdentifier, SpelledUnicode, SpelledTransform, Fields, identifier_pieces, optional_pieces, fields_pieces, unicode_pieces, transform_pieces, HasWords, IsIdentifier, IsKeyword, IsField, IsUnicode, IsTransform, lower_singleton, is_one_byte, front, blocks, head, tail_blocks, IsPrivate}
+use Rattle.iloc_spec_grammar.specs.Tree.{Extension, unicode, transform, other, Written, extension_pieces, extension_block, block_pieces, blocks_of, spelling, IsUnicodeBlock, IsTransformBlock, IsExtension, IsWritten, TreeMeans}
 use Rattle.iloc_spec_grammar.specs.Meaning.{Locale}
-use Rattle.iloc_spec_grammar.proofs.WordsLaws.{
-  length-language,
-  length-script,
-  length-region,
-  length-variant,
-  length-attribute,
-  length-unicode_key,
-  length-transform_key,
-}
+use Rattle.iloc_spec_grammar.proofs.WordsLaws.{length-language, length-script, length-region, length-variant, length-attribute, length-unicode_key, length-transform_key}
 use Rattle.iloc_spec_grammar.proofs.IdentifierLaws.{pieces-identifier_of, identifier_of-pieces}
-use Rattle.iloc_spec_grammar.specs.Reading.{
-  identifier_of,
-  before_key,
-  fields_from,
-  is_two,
-  unicode_of,
-  optional_of,
-  transform_of,
-  extension_of,
-  extensions_in,
-  private_in,
-  written_of,
-}
+use Rattle.iloc_spec_grammar.specs.Reading.{identifier_of, before_key, fields_from, is_two, unicode_of, optional_of, transform_of, extension_of, extensions_in, private_in, written_of}
 use Rattle.iloc_spec_grammar.proofs.ValuesLaws.{all_weaker}
-use Rattle.iloc_spec_grammar.proofs.ReadBack.{
-  all_append,
-  after_language_each,
-  optional_each,
-  fields_each,
-  plain_fields,
-}
+use Rattle.iloc_spec_grammar.proofs.ReadBack.{all_append, after_language_each, optional_each, fields_each, plain_fields}
 use Rattle.iloc_spec_grammar.proofs.Singletons.{no_t, no_u}
 
 -- pieces of more than one byte

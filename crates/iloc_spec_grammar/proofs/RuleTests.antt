@@ -1,95 +1,14 @@
 -- Tests of the rules: each is true exactly where the rule holds.
-use Rattle.iloc_spec_grammar.specs.Syntax.{
-  PrivateSubtag,
-  TransformKey,
-  kept,
-  LanguageLengths,
-  Field,
-  Block,
-  code_x,
-  code_u,
-  code_t,
-  Text,
-  Kind,
-  Language,
-  Script,
-  Region,
-  Variant,
-  UnicodeKey,
-  Attribute,
-  is_word,
-  IsWord,
-  lower,
-  word_cmp,
-  SpelledIdentifier,
-  SpelledUnicode,
-  HasWords,
-  IsIdentifier,
-  IsKeyword,
-  IsField,
-  IsOther,
-  lower_singleton,
-  AllDifferent,
-  IsPrivate,
-}
-use Rattle.std.proofs.Common.{
-  ◌+◌,
-  arith,
-  ◌≡◌,
-  ◌⊎◌,
-  ℕ,
-  ◌<◌,
-  Bool,
-  true,
-  false,
-  not,
-  ◌&&◌,
-  ◌||◌,
-  ◌==◌,
-  List,
-  [],
-  ◌∷◌,
-  length,
-  map,
-  sym,
-  ◌∙◌,
-  Option,
-  Some,
-  None,
-  IfSome,
-  true≢false,
-  is_some,
-  nat_lt,
-}
+use Rattle.iloc_spec_grammar.specs.Syntax.{PrivateSubtag, TransformKey, kept, LanguageLengths, Field, Block, code_x, code_u, code_t, Text, Kind, Language, Script, Region, Variant, UnicodeKey, Attribute, is_word, IsWord, lower, word_cmp, SpelledIdentifier, SpelledUnicode, HasWords, IsIdentifier, IsKeyword, IsField, IsOther, lower_singleton, AllDifferent, IsPrivate}
+use Rattle.std.proofs.Common.{◌+◌, arith, ◌≡◌, ◌⊎◌, ℕ, ◌<◌, Bool, true, false, not, ◌&&◌, ◌||◌, ◌==◌, List, [], ◌∷◌, length, map, sym, ◌∙◌, Option, Some, None, IfSome, true≢false, is_some, nat_lt}
 use Rattle.std.specs.Int.{is_in_range}
 use Rattle.std.specs.List.{AllByRecursion, list_all}
 use Rattle.std.specs.declared.cmp.Ordering.{Ordering}
 use Rattle.std.proofs.lemmas.Bool.{false_from_ne_true, not-true, not_from_false, both_ways}
-use Rattle.iloc_spec_grammar.specs.Tree.{
-  Extension,
-  unicode,
-  transform,
-  other,
-  extension_pieces,
-  IsUnicodeBlock,
-  IsTransformBlock,
-  IsExtension,
-  IsBlock,
-}
+use Rattle.iloc_spec_grammar.specs.Tree.{Extension, unicode, transform, other, extension_pieces, IsUnicodeBlock, IsTransformBlock, IsExtension, IsBlock}
 use Rattle.iloc_spec_grammar.specs.Meaning.{SpellsIdentifier}
 use Rattle.iloc_spec_grammar.specs.Reading.{identifier_of, extension_of}
-use Rattle.iloc_spec_grammar.specs.Computing.{
-  holds_if_some,
-  all_different,
-  is_identifier,
-  is_keyword,
-  is_unicode,
-  is_field,
-  is_other,
-  is_private,
-  is_extension,
-  is_block,
-}
+use Rattle.iloc_spec_grammar.specs.Computing.{holds_if_some, all_different, is_identifier, is_keyword, is_unicode, is_field, is_other, is_private, is_extension, is_block}
 use Rattle.iloc_spec_grammar.proofs.IdentifierLaws.{pieces-identifier_of, identifier_of-pieces}
 use Rattle.iloc_spec_grammar.proofs.Readings.{extension_of-pieces, pieces-extension_of}
 

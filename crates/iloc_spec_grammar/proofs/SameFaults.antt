@@ -1,50 +1,13 @@
 -- The fault of a text is the same by its blocks as by its tree.
-use Rattle.std.proofs.Common.{arith, ◌≡◌, ◌⊎◌, inl, inr, ℕ, Bool, true, false, ◌||◌, List, [], ◌∷◌, ◌++◌, refl, sym}
-use Rattle.std.proofs.Common.{ap, ◌∙◌, true≢false, Result, Ok, Err, MatchResult, ◌↔◌, map}
+use Rattle.std.proofs.Common.{arith, ◌≡◌, ◌⊎◌, inl, inr, ℕ, Bool, true, false, ◌||◌, List, [], ◌∷◌, ◌++◌, refl, sym, ap, ◌∙◌, true≢false, Result, Ok, Err, MatchResult, ◌↔◌, map}
 use Rattle.std.specs.List.{list_any}
 use Rattle.std.specs.Char.{is_ascii_alphanumeric}
 use Rattle.std.specs.Ordering.{nat_cmp, eq_by_cmp}
 use Rattle.std.proofs.Math.Bool.{or-false}
 use Rattle.std.proofs.lemmas.Bool.{or_cases, cases_Bool, false_from_ne_true}
-use Rattle.iloc_spec_grammar.specs.Syntax.{
-  LanguageLengths,
-  Block,
-  code_t,
-  Text,
-  pieces,
-  AreLengths,
-  Language,
-  is_word,
-  lower_singleton,
-  head,
-  first_piece,
-}
-use Rattle.iloc_spec_grammar.specs.Tree.{
-  HasSingleton,
-  IsNew,
-  TreeBlockFault,
-  no_singleton,
-  FirstBadBlock,
-  here,
-  later,
-  HasTreeFault,
-  no_language,
-  no_identifier,
-  bad_block,
-}
-use Rattle.iloc_spec_grammar.specs.Meaning.{
-  Locale,
-  Means,
-  Fault,
-  IsSecond,
-  BlockFault,
-  HasFault,
-  in_head,
-  in_block,
-  HasBlockFault,
-  not_a_language,
-  not_an_identifier,
-}
+use Rattle.iloc_spec_grammar.specs.Syntax.{LanguageLengths, Block, code_t, Text, pieces, AreLengths, Language, is_word, lower_singleton, head, first_piece}
+use Rattle.iloc_spec_grammar.specs.Tree.{HasSingleton, IsNew, TreeBlockFault, no_singleton, FirstBadBlock, here, later, HasTreeFault, no_language, no_identifier, bad_block}
+use Rattle.iloc_spec_grammar.specs.Meaning.{Locale, Means, Fault, IsSecond, BlockFault, HasFault, in_head, in_block, HasBlockFault, not_a_language, not_an_identifier}
 use Rattle.iloc_spec_grammar.specs.Computing.{locale_result}
 use Rattle.iloc_spec_grammar.proofs.FaultLaws as trees
 use Rattle.iloc_spec_grammar.proofs.FaultLaws.{AreGood, letter}

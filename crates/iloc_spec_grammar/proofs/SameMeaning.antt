@@ -1,124 +1,20 @@
 -- The meaning of a text is the same by its blocks as by its tree.
-use Rattle.std.proofs.Common.{
-  ◌≡◌,
-  inl,
-  inr,
-  ℕ,
-  ◌+◌,
-  ◌<◌,
-  Bool,
-  true,
-  false,
-  ◌==◌,
-  List,
-  [],
-  ◌∷◌,
-  ◌++◌,
-  length,
-  map,
-  refl,
-  sym,
-  ap,
-  ◌∙◌,
-  subst,
-  arith,
-  Option,
-  Some,
-  None,
-  IfSome,
-  append-nil,
-}
+use Rattle.std.proofs.Common.{◌≡◌, inl, inr, ℕ, ◌+◌, ◌<◌, Bool, true, false, ◌==◌, List, [], ◌∷◌, ◌++◌, length, map, refl, sym, ap, ◌∙◌, subst, arith, Option, Some, None, IfSome, append-nil}
 use Rattle.std.specs.List.{AllByRecursion, list_any}
 use Rattle.std.specs.Char.{is_ascii_alphanumeric}
 use Rattle.std.specs.Ordering.{nat_cmp, eq_by_cmp}
 use Rattle.std.specs.FinMap.{find}
 use Rattle.std.proofs.lemmas.Bool.{or_parts, cond_both, false_from_ne_true, both_ways}
 use Rattle.std.proofs.lemmas.Bool.Decides.{nat_tests}
-use Rattle.iloc_spec_grammar.specs.Syntax.{
-  LanguageLengths,
-  Block,
-  code_x,
-  code_u,
-  code_t,
-  Text,
-  pieces,
-  AreLengths,
-  PrivateSubtag,
-  IsWord,
-  lower,
-  Spelled,
-  SpelledIdentifier,
-  SpelledUnicode,
-  SpelledTransform,
-  Fields,
-  fields_pieces,
-  unicode_pieces,
-  transform_pieces,
-  IsUnicode,
-  IsTransform,
-  IsOther,
-  is_other_singleton,
-  lower_singleton,
-  AllDifferent,
-  head,
-  tail_blocks,
-}
-use Rattle.iloc_spec_grammar.specs.Tree.{
-  Extension,
-  unicode,
-  transform,
-  other,
-  extension_pieces,
-  IsExtension,
-  TreeMeans,
-  meaning,
-  by_singleton,
-  IsBlock,
-  HasSingleton,
-}
-use Rattle.iloc_spec_grammar.specs.Meaning.{
-  Locale,
-  SpelledExtensions,
-  Extensions,
-  BlocksMean,
-  Means,
-  SpellsExtensions,
-  AreBlocks,
-  SpellsIdentifier,
-  after,
-  no_unicode,
-  no_transform,
-  normal_unicode,
-  normal_transform,
-  normal_extensions,
-  other_blocks,
-}
-use Rattle.iloc_spec_grammar.specs.ByBlocks.{
-  UnicodeMeans,
-  TransformMeans,
-  PrivateMeans,
-  grammar_rules,
-  PartIs,
-  BlocksGive,
-  MeansByBlocks,
-}
+use Rattle.iloc_spec_grammar.specs.Syntax.{LanguageLengths, Block, code_x, code_u, code_t, Text, pieces, AreLengths, PrivateSubtag, IsWord, lower, Spelled, SpelledIdentifier, SpelledUnicode, SpelledTransform, Fields, fields_pieces, unicode_pieces, transform_pieces, IsUnicode, IsTransform, IsOther, is_other_singleton, lower_singleton, AllDifferent, head, tail_blocks}
+use Rattle.iloc_spec_grammar.specs.Tree.{Extension, unicode, transform, other, extension_pieces, IsExtension, TreeMeans, meaning, by_singleton, IsBlock, HasSingleton}
+use Rattle.iloc_spec_grammar.specs.Meaning.{Locale, SpelledExtensions, Extensions, BlocksMean, Means, SpellsExtensions, AreBlocks, SpellsIdentifier, after, no_unicode, no_transform, normal_unicode, normal_transform, normal_extensions, other_blocks}
+use Rattle.iloc_spec_grammar.specs.ByBlocks.{UnicodeMeans, TransformMeans, PrivateMeans, grammar_rules, PartIs, BlocksGive, MeansByBlocks}
 use Rattle.iloc_spec_grammar.specs.Reading.{unicode_of, transform_of, written_of}
-use Rattle.iloc_spec_grammar.proofs.Readings.{
-  unicode_of-pieces,
-  pieces-unicode_of,
-  transform_of-pieces,
-  pieces-transform_of,
-}
+use Rattle.iloc_spec_grammar.proofs.Readings.{unicode_of-pieces, pieces-unicode_of, transform_of-pieces, pieces-transform_of}
 use Rattle.iloc_spec_grammar.proofs.Readings as trees
 use Rattle.iloc_spec_grammar.proofs.FaultLaws.{AreGood, NotSeen, unsee_one}
-use Rattle.iloc_spec_grammar.proofs.BlockLaws.{
-  RuleAt,
-  blocks_good,
-  one_extensions,
-  tree_by_blocks,
-  blocks_tree,
-  read_by_blocks,
-}
+use Rattle.iloc_spec_grammar.proofs.BlockLaws.{RuleAt, blocks_good, one_extensions, tree_by_blocks, blocks_tree, read_by_blocks}
 use Rattle.iloc_spec_grammar.proofs.Singletons.{tied, find_holds}
 use Rattle.iloc_spec_grammar.proofs.ValuesLaws.{all_weaker}
 

@@ -1,56 +1,11 @@
 -- The steps of identifiers, of fields and of what blocks spell are those of the tree.
-use Rattle.std.proofs.Common.{
-  ◌≡◌,
-  ℕ,
-  ◌≤◌,
-  Bool,
-  length,
-  refl,
-  ap,
-  subst,
-  arith,
-  Option,
-  Some,
-  None,
-  option_to_list,
-}
+use Rattle.std.proofs.Common.{◌≡◌, ℕ, ◌≤◌, Bool, length, refl, ap, subst, arith, Option, Some, None, option_to_list}
 use Rattle.std.specs.List.{AllZip}
 use Rattle.std.specs.Char.{to_ascii_lowercase}
-use Rattle.iloc_spec_grammar.specs.Syntax.{
-  LanguageLengths,
-  Field,
-  SpelledIdentifier,
-  SpelledUnicode,
-  SpelledTransform,
-  Fields,
-  IsUnicode,
-  IsTransform,
-}
-use Rattle.iloc_spec_grammar.specs.Tree.{
-  Extension,
-  unicode,
-  transform,
-  extension_pieces,
-  IsUnicodeBlock,
-  IsTransformBlock,
-  IsExtension,
-}
-use Rattle.iloc_spec_grammar.specs.Values.{
-  Rule,
-  LessTrue,
-  AttributesStep,
-  FieldsStep,
-  IdentifierStep,
-  BlockStep,
-}
-use Rattle.iloc_spec_grammar.specs.TreeSteps.{
-  TreeRule,
-  TreeLessTrue,
-  TreeIdentifierStep,
-  ExtensionStep,
-  unicode_extension,
-  transform_extension,
-}
+use Rattle.iloc_spec_grammar.specs.Syntax.{LanguageLengths, Field, SpelledIdentifier, SpelledUnicode, SpelledTransform, Fields, IsUnicode, IsTransform}
+use Rattle.iloc_spec_grammar.specs.Tree.{Extension, unicode, transform, extension_pieces, IsUnicodeBlock, IsTransformBlock, IsExtension}
+use Rattle.iloc_spec_grammar.specs.Values.{Rule, LessTrue, AttributesStep, FieldsStep, IdentifierStep, BlockStep}
+use Rattle.iloc_spec_grammar.specs.TreeSteps.{TreeRule, TreeLessTrue, TreeIdentifierStep, ExtensionStep, unicode_extension, transform_extension}
 use Rattle.iloc_spec_grammar.proofs.Orders.{itself}
 use Rattle.iloc_spec_grammar.proofs.General.{zip_weaker}
 

@@ -1,84 +1,22 @@
 -- The steps of texts and of their blocks are those of the trees that they spell.
-use Rattle.std.proofs.Common.{◌≡◌, ◌≢◌, ◌⊎◌, inl, inr, ℕ, Bool, false, not, ◌==◌, List, [], ◌∷◌, ◌++◌, map}
-use Rattle.std.proofs.Common.{filter, refl, sym, ap, ◌∙◌, subst, arith, Option, Some, None, option_to_list}
+use Rattle.std.proofs.Common.{◌≡◌, ◌≢◌, ◌⊎◌, inl, inr, ℕ, Bool, false, not, ◌==◌, List, [], ◌∷◌, ◌++◌, map, filter, refl, sym, ap, ◌∙◌, subst, arith, Option, Some, None, option_to_list}
 use Rattle.std.specs.List.{AllByRecursion, AllZip}
 use Rattle.std.proofs.lemmas.Bool.{cases_Bool, ne_eqb}
-use Rattle.iloc_spec_grammar.specs.Syntax.{
-  LanguageLengths,
-  Block,
-  code_x,
-  code_u,
-  code_t,
-  Text,
-  pieces,
-  join,
-  head,
-  tail_blocks,
-  AreLengths,
-  IsIdentifier,
-  identifier_pieces,
-  SpelledIdentifier,
-  SpelledUnicode,
-  unicode_pieces,
-  transform_pieces,
-  IsUnicode,
-  lower_singleton,
-}
+use Rattle.iloc_spec_grammar.specs.Syntax.{LanguageLengths, Block, code_x, code_u, code_t, Text, pieces, join, head, tail_blocks, AreLengths, IsIdentifier, identifier_pieces, SpelledIdentifier, SpelledUnicode, unicode_pieces, transform_pieces, IsUnicode, lower_singleton}
 use Rattle.iloc_spec_grammar.specs.Tree.{Extension, unicode, other, Written, extension_block, blocks_of, spelling, IsUnicodeBlock, IsTransformBlock, IsExtension, IsWritten, IsBlock}
 use Rattle.iloc_spec_grammar.specs.Meaning.{Locale, Means, AreBlocks, normal_identifier, normal_extensions}
-use Rattle.iloc_spec_grammar.specs.Values.{
-  Reordered,
-  Rule,
-  AttributesStep,
-  FieldsStep,
-  IdentifierStep,
-  BlockStep,
-  BlocksStep,
-  TextStep,
-  IdentifierTextStep,
-}
-use Rattle.iloc_spec_grammar.specs.TreeSteps.{
-  TreeRule,
-  TreeIdentifierStep,
-  ExtensionStep,
-  Step,
-  TreeTextStep,
-  TreeIdentifierTextStep,
-  written,
-}
+use Rattle.iloc_spec_grammar.specs.Values.{Reordered, Rule, AttributesStep, FieldsStep, IdentifierStep, BlockStep, BlocksStep, TextStep, IdentifierTextStep}
+use Rattle.iloc_spec_grammar.specs.TreeSteps.{TreeRule, TreeIdentifierStep, ExtensionStep, Step, TreeTextStep, TreeIdentifierTextStep, written}
 use Rattle.iloc_spec_grammar.specs.Reading.{identifier_of, written_of, unicode_of, extension_of, extensions_in, private_in}
-use Rattle.iloc_spec_grammar.proofs.Orders.{
-  total_reordered,
-  all_reordered,
-  map_reordered,
-  reordered_after,
-  filter_reordered,
-}
+use Rattle.iloc_spec_grammar.proofs.Orders.{total_reordered, all_reordered, map_reordered, reordered_after, filter_reordered}
 use Rattle.iloc_spec_grammar.proofs.RuleTests.{extension_read}
-use Rattle.iloc_spec_grammar.proofs.FaultLaws.{
-  EndsAtX,
-  tail_ends,
-  AreGood,
-  good_written,
-  written_good,
-  pieces-written_of,
-}
+use Rattle.iloc_spec_grammar.proofs.FaultLaws.{EndsAtX, tail_ends, AreGood, good_written, written_good, pieces-written_of}
 use Rattle.iloc_spec_grammar.proofs.Readings.{unicode_read, transform_read, head-spelling, blocks-spelling}
 use Rattle.iloc_spec_grammar.proofs.Singletons.{no_t, no_u, no_x}
 use Rattle.iloc_spec_grammar.proofs.StepLaws.{identifier_step, extension_step, written_step}
 use Rattle.iloc_spec_grammar.proofs.StepSizes.{step_pieces}
 use Rattle.iloc_spec_grammar.proofs.IdentifierTexts.{pieces-identifier_text}
-use Rattle.iloc_spec_grammar.proofs.SamePartSteps.{
-  tree_rule,
-  rule_of,
-  unicode_step,
-  transform_step,
-  same_identifier,
-  tree_identifier_rule,
-  same_rule,
-  identifier_rule_by_tree,
-  block_by_tree,
-}
+use Rattle.iloc_spec_grammar.proofs.SamePartSteps.{tree_rule, rule_of, unicode_step, transform_step, same_identifier, tree_identifier_rule, same_rule, identifier_rule_by_tree, block_by_tree}
 use Rattle.iloc_spec_grammar.proofs.SameMeaning.{good_blocks, blocks_spelled}
 use Rattle.iloc_spec_grammar.proofs.PiecesLaws.{join-pieces}
 use Rattle.iloc_spec_grammar.proofs.IdentifierLaws.{identifier_of-pieces, one_identifier}

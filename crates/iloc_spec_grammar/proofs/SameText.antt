@@ -1,22 +1,12 @@
 -- The printed text is the text of the printed tree, so that the tests tell which values are well-formed.
-use Rattle.std.proofs.Common.{arith}
-use Rattle.std.proofs.Common.{◌≡◌, ◌↔◌, ℕ, Bool, cond, List, [], ◌∷◌, ◌++◌, length, map, flat_map, refl, sym, ap, ◌∙◌, subst, option_to_list, nat_lt, append_assoc, append-nil}
+use Rattle.std.proofs.Common.{arith, ◌≡◌, ◌↔◌, ℕ, Bool, cond, List, [], ◌∷◌, ◌++◌, length, map, flat_map, refl, sym, ap, ◌∙◌, subst, option_to_list, nat_lt, append_assoc, append-nil}
 use Rattle.std.proofs.lemmas.Bool.{cond_both}
 use Rattle.std.proofs.lemmas.List.{map-append}
 use Rattle.std.proofs.lemmas.List.Concat.{flat_map-append}
 use Rattle.iloc_spec_grammar.specs.Syntax.{Block, code_x, Text, join, AreLengths, languages, SpelledTransform, Unicode, Transform, identifier_pieces}
 use Rattle.iloc_spec_grammar.specs.Tree.{Extension, other, block_pieces, spelling, transform_form, unicode_form, others_form, private_form, extensions_form, before_t, after_t, printed, tree_text, form_pieces, TreeMeans, IsTreeWellFormed, spelled_transform}
 use Rattle.iloc_spec_grammar.specs.Meaning.{Locale, Extensions, Means}
-use Rattle.iloc_spec_grammar.specs.Values.{
-  unicode_spelling,
-  transform_spelling,
-  other_spelling,
-  private_spelling,
-  extensions_spelling,
-  text,
-  IsValue,
-  IsWellFormed,
-}
+use Rattle.iloc_spec_grammar.specs.Values.{unicode_spelling, transform_spelling, other_spelling, private_spelling, extensions_spelling, text, IsValue, IsWellFormed}
 use Rattle.iloc_spec_grammar.proofs.PartTexts as parts
 use Rattle.iloc_spec_grammar.proofs.ReadBack as back
 use Rattle.iloc_spec_grammar.proofs.WellRead.{means_well_formed}

@@ -1,7 +1,6 @@
 -- Maps of lists, and sets of lists of words: what they hold, how long they are, and lists one after the
 -- other.
-use Rattle.std.proofs.Common.{◌≡◌, ◌+◌, ◌≤◌, true, false, cond, List, [], ◌∷◌, ◌++◌, length, map, refl}
-use Rattle.std.proofs.Common.{sym, ap, ap₂, ◌∙◌, arith, Some, None, Bool, ◌&&◌}
+use Rattle.std.proofs.Common.{◌≡◌, ◌+◌, ◌≤◌, true, false, cond, List, [], ◌∷◌, ◌++◌, length, map, refl, sym, ap, ap₂, ◌∙◌, arith, Some, None, Bool, ◌&&◌}
 use Rattle.std.specs.Prelude.{is_some}
 use Rattle.std.specs.Option.{option_or}
 use Rattle.std.specs.List.{list_any}
@@ -13,14 +12,7 @@ use Rattle.std.proofs.lemmas.List.{length-map}
 use Rattle.std.proofs.lemmas.List.Folds.{list_any-append}
 use Rattle.iloc_spec_grammar.specs.Syntax.{Text, word_cmp, is_same, AllDifferent}
 use Rattle.iloc_spec_grammar.specs.Meaning.{map_of, set_of}
-use Rattle.iloc_spec_grammar.proofs.MapLaws.{
-  word_cmp_total,
-  same_words,
-  find-map_of,
-  sorted-map_of,
-  map_of_same,
-  same_is,
-}
+use Rattle.iloc_spec_grammar.proofs.MapLaws.{word_cmp_total, same_words, find-map_of, sorted-map_of, map_of_same, same_is}
 use Rattle.iloc_spec_grammar.proofs.ValuesLaws.{unmarked}
 use Rattle.std.proofs.lemmas.Bool.{cond_both, false_from_ne_true}
 

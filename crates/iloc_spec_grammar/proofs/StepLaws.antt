@@ -1,6 +1,5 @@
 -- A step keeps the rules, the meaning and the sums over the pieces.
-use Rattle.std.proofs.Common.{◌≡◌, ℕ, ◌+◌, ◌<◌, Bool, true, false, cond, List, [], ◌∷◌, length, map}
-use Rattle.std.proofs.Common.{filter_map, refl, sym, ap, ◌∙◌, arith, Option, Some, None}
+use Rattle.std.proofs.Common.{◌≡◌, ℕ, ◌+◌, ◌<◌, Bool, true, false, cond, List, [], ◌∷◌, length, map, filter_map, refl, sym, ap, ◌∙◌, arith, Option, Some, None}
 use Rattle.std.specs.List.{AllByRecursion, list_any, AllZip, cons_option}
 use Rattle.std.specs.Char.{to_ascii_lowercase}
 use Rattle.std.specs.Ordering.{nat_cmp, eq_by_cmp}
@@ -8,45 +7,12 @@ use Rattle.std.specs.Cmp.{nat_cmp_total}
 use Rattle.std.specs.FinMap.{find, nat_cmp-IsAntisymmetric}
 use Rattle.std.proofs.lemmas.Bool.{or_parts, or_from, not-true, both_ways, false_from_ne_true}
 use Rattle.iloc_spec_grammar.specs.Syntax.{LanguageLengths, Field, Block, code_u, code_t, Text, Attribute, IsWord, lower, word_cmp, is_true, SpelledIdentifier, Fields, IsIdentifier, IsKeyword, IsField, lower_singleton, AllDifferent}
-use Rattle.iloc_spec_grammar.specs.Tree.{
-  Extension,
-  other,
-  Written,
-  IsExtension,
-  IsWritten,
-  unicode_part,
-  transform_part,
-  private_part,
-  other_part,
-  by_singleton,
-  meaning,
-}
+use Rattle.iloc_spec_grammar.specs.Tree.{Extension, other, Written, IsExtension, IsWritten, unicode_part, transform_part, private_part, other_part, by_singleton, meaning}
 use Rattle.iloc_spec_grammar.specs.Meaning.{map_of, set_of, normal_identifier, normal_values, normal_fields}
 use Rattle.iloc_spec_grammar.specs.Values.{Reordered, Without, WithoutRepeats}
-use Rattle.iloc_spec_grammar.specs.TreeSteps.{
-  TreeLessTrue,
-  keys_differ,
-  TreeRule,
-  TreeIdentifierStep,
-  ExtensionStep,
-  Step,
-  unicode_extension,
-  transform_extension,
-}
+use Rattle.iloc_spec_grammar.specs.TreeSteps.{TreeLessTrue, keys_differ, TreeRule, TreeIdentifierStep, ExtensionStep, Step, unicode_extension, transform_extension}
 use Rattle.iloc_spec_grammar.proofs.MapLaws.{map_of_same, word_cmp_total, same_words}
-use Rattle.iloc_spec_grammar.proofs.Orders.{
-  all_reordered,
-  map_reordered,
-  different_reordered,
-  find_reordered,
-  set_of_reordered,
-  map_repeats,
-  all_repeats,
-  all_without,
-  filter_without,
-  itself,
-  length_reordered,
-}
+use Rattle.iloc_spec_grammar.proofs.Orders.{all_reordered, map_reordered, different_reordered, find_reordered, set_of_reordered, map_repeats, all_repeats, all_without, filter_without, itself, length_reordered}
 use Rattle.iloc_spec_grammar.proofs.General.{map-zip, all_zip, zip_weaker}
 use Rattle.std.proofs.lemmas.Simd.{map-map}
 use Rattle.std.proofs.lemmas.Slice.Zip.{AllZip-long}

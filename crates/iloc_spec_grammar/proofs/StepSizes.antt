@@ -1,40 +1,12 @@
 -- A step lengthens no text, and makes no hyphen.
-use Rattle.std.proofs.Common.{◌≡◌, ℕ, false, ◌+◌, ◌≤◌, Bool, cond, ◌==◌, List, [], ◌∷◌, length, map}
-use Rattle.std.proofs.Common.{flat_map, refl, arith, option_to_list, le_refl, length-append}
+use Rattle.std.proofs.Common.{◌≡◌, ℕ, false, ◌+◌, ◌≤◌, Bool, cond, ◌==◌, List, [], ◌∷◌, length, map, flat_map, refl, arith, option_to_list, le_refl, length-append}
 use Rattle.std.specs.List.{AllByRecursion, list_any}
 use Rattle.std.proofs.lemmas.List.Concat.{flat_map-append}
-use Rattle.iloc_spec_grammar.specs.Syntax.{
-  LanguageLengths,
-  Field,
-  Text,
-  pieces,
-  join,
-  SpelledIdentifier,
-  Fields,
-  identifier_pieces,
-  fields_pieces,
-}
-use Rattle.iloc_spec_grammar.specs.Tree.{
-  Extension,
-  Written,
-  extension_pieces,
-  extension_block,
-  block_pieces,
-  spelling,
-  IsWritten,
-  TreeMeans,
-  meaning,
-}
+use Rattle.iloc_spec_grammar.specs.Syntax.{LanguageLengths, Field, Text, pieces, join, SpelledIdentifier, Fields, identifier_pieces, fields_pieces}
+use Rattle.iloc_spec_grammar.specs.Tree.{Extension, Written, extension_pieces, extension_block, block_pieces, spelling, IsWritten, TreeMeans, meaning}
 use Rattle.iloc_spec_grammar.specs.TreeSteps.{TreeLessTrue, TreeRule, TreeIdentifierStep, ExtensionStep, Step}
 use Rattle.iloc_spec_grammar.proofs.PiecesLaws.{pieces-join, pieces_hyphen_free, join-pieces}
-use Rattle.iloc_spec_grammar.proofs.Orders.{
-  total,
-  total-append,
-  total_reordered,
-  total_without,
-  total_repeats,
-  total_zip,
-}
+use Rattle.iloc_spec_grammar.proofs.Orders.{total, total-append, total_reordered, total_without, total_repeats, total_zip}
 use Rattle.iloc_spec_grammar.proofs.StepLaws.{written_step}
 use Rattle.std.proofs.lemmas.Bool.{false_from_ne_true}
 

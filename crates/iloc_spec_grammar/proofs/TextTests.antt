@@ -1,18 +1,8 @@
 -- The tests of the steps between texts.
-use Rattle.std.proofs.Common.{◌≡◌, inl, inr, true, Result, Ok, Err, refl, sym, ap}
-use Rattle.std.proofs.Common.{ap₂, ◌∙◌, subst, true≢false}
+use Rattle.std.proofs.Common.{◌≡◌, inl, inr, true, Result, Ok, Err, refl, sym, ap, ap₂, ◌∙◌, subst, true≢false}
 use Rattle.std.specs.Result.{is_ok}
 use Rattle.std.proofs.lemmas.Bool.{and_parts, and_from, or_cases, or_left, or_right}
-use Rattle.iloc_spec_grammar.specs.Syntax.{
-  LanguageLengths,
-  Text,
-  pieces,
-  join,
-  AreLengths,
-  lower,
-  IsIdentifier,
-  identifier_pieces,
-}
+use Rattle.iloc_spec_grammar.specs.Syntax.{LanguageLengths, Text, pieces, join, AreLengths, lower, IsIdentifier, identifier_pieces}
 use Rattle.iloc_spec_grammar.specs.Tree.{IsWritten, spelling, meaning}
 use Rattle.iloc_spec_grammar.specs.Meaning.{normal_identifier, Fault}
 use Rattle.iloc_spec_grammar.specs.Values.{TextStep, IdentifierTextStep}
@@ -28,18 +18,8 @@ use Rattle.iloc_spec_grammar.proofs.ComputingLaws.{computed_tree, computed_ident
 use Rattle.iloc_spec_grammar.proofs.CaseLaws.{spelling-written_of}
 use Rattle.iloc_spec_grammar.proofs.StepLaws.{identifier_step, written_step}
 use Rattle.iloc_spec_grammar.proofs.StepSizes.{step_pieces}
-use Rattle.iloc_spec_grammar.proofs.SameSteps.{
-  tree_step,
-  step_by_tree,
-  tree_identifier_step,
-  identifier_step_by_tree,
-}
-use Rattle.iloc_spec_grammar.specs.StepTests.{
-  is_identifier_step,
-  is_step,
-  is_text_step,
-  is_identifier_text_step,
-}
+use Rattle.iloc_spec_grammar.proofs.SameSteps.{tree_step, step_by_tree, tree_identifier_step, identifier_step_by_tree}
+use Rattle.iloc_spec_grammar.specs.StepTests.{is_identifier_step, is_step, is_text_step, is_identifier_text_step}
 use Rattle.iloc_spec_grammar.proofs.Equality.{word_equality}
 use Rattle.iloc_spec_grammar.proofs.PartTests.{tests_identifier_step, tests_step}
 

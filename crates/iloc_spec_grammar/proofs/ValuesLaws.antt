@@ -1,31 +1,5 @@
 -- A value is its own normal form, and its printed form means it.
-use Rattle.std.proofs.Common.{
-  ◌≡◌,
-  ◌≢◌,
-  ℕ,
-  ◌+◌,
-  ◌<◌,
-  Bool,
-  true,
-  false,
-  List,
-  [],
-  ◌∷◌,
-  length,
-  map,
-  filter,
-  refl,
-  sym,
-  ap,
-  ap₂,
-  ◌∙◌,
-  arith,
-  Option,
-  Some,
-  None,
-  IfSome,
-  option_map,
-}
+use Rattle.std.proofs.Common.{◌≡◌, ◌≢◌, ℕ, ◌+◌, ◌<◌, Bool, true, false, List, [], ◌∷◌, length, map, filter, refl, sym, ap, ap₂, ◌∙◌, arith, Option, Some, None, IfSome, option_map}
 use Rattle.std.specs.List.{AllByRecursion}
 use Rattle.std.specs.Ordering.{is_lt}
 use Rattle.std.specs.declared.cmp.Ordering.TheVariants.{Less}
@@ -33,62 +7,10 @@ use Rattle.std.specs.FinMap.{is_sorted}
 use Rattle.std.specs.FinMap.Entries.{below_all}
 use Rattle.std.proofs.lemmas.Bool.{and_parts, and_from}
 use Rattle.std.proofs.lemmas.Bool.Decides.{nat_tests}
-use Rattle.iloc_spec_grammar.specs.Syntax.{
-  LanguageLengths,
-  Field,
-  Text,
-  Kind,
-  Subtag,
-  UnicodeKey,
-  TransformKey,
-  Attribute,
-  is_word,
-  IsWord,
-  normal,
-  lower,
-  word_cmp,
-  is_true,
-  Stage,
-  IdentifierOf,
-  SpelledIdentifier,
-  Identifier,
-  Unicode,
-  Transform,
-  Fields,
-  identifier_pieces,
-  HasWords,
-  IsIdentifier,
-  IsKeyword,
-  IsField,
-  AllDifferent,
-}
-use Rattle.iloc_spec_grammar.specs.Tree.{
-  IsUnicodeBlock,
-  IsTransformBlock,
-  spelled_identifier,
-  spelled_unicode,
-  spelled_transform,
-}
-use Rattle.iloc_spec_grammar.specs.Meaning.{
-  map_of,
-  set_of,
-  normal_identifier,
-  normal_unicode,
-  normal_transform,
-  normal_fields,
-  normal_values,
-  IdentifierMeans,
-}
-use Rattle.iloc_spec_grammar.specs.Values.{
-  IsNormal,
-  StrictlyAscends,
-  IsIdentifierValue,
-  IsUnicodeValue,
-  IsTransformValue,
-  lower_identifier,
-  spelled_value,
-  spelled_fields,
-}
+use Rattle.iloc_spec_grammar.specs.Syntax.{LanguageLengths, Field, Text, Kind, Subtag, UnicodeKey, TransformKey, Attribute, is_word, IsWord, normal, lower, word_cmp, is_true, Stage, IdentifierOf, SpelledIdentifier, Identifier, Unicode, Transform, Fields, identifier_pieces, HasWords, IsIdentifier, IsKeyword, IsField, AllDifferent}
+use Rattle.iloc_spec_grammar.specs.Tree.{IsUnicodeBlock, IsTransformBlock, spelled_identifier, spelled_unicode, spelled_transform}
+use Rattle.iloc_spec_grammar.specs.Meaning.{map_of, set_of, normal_identifier, normal_unicode, normal_transform, normal_fields, normal_values, IdentifierMeans}
+use Rattle.iloc_spec_grammar.specs.Values.{IsNormal, StrictlyAscends, IsIdentifierValue, IsUnicodeValue, IsTransformValue, lower_identifier, spelled_value, spelled_fields}
 use Rattle.iloc_spec_grammar.proofs.WordsLaws.{lower-lower, title-lower, upper-lower, is_word-lower}
 use Rattle.iloc_spec_grammar.proofs.MapLaws.{map_of_sorted, sorted_different, less}
 use Rattle.iloc_spec_grammar.proofs.General.{all_mapped, some_mapped, map-then, option_map-then}

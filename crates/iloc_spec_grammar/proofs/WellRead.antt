@@ -1,28 +1,5 @@
 -- What a text means is a well-formed value.
-use Rattle.std.proofs.Common.{
-  ◌≡◌,
-  ◌≢◌,
-  ℕ,
-  ◌<◌,
-  Bool,
-  true,
-  false,
-  not,
-  List,
-  [],
-  ◌∷◌,
-  length,
-  map,
-  filter_map,
-  refl,
-  subst,
-  arith,
-  Option,
-  Some,
-  None,
-  IfSome,
-  option_map,
-}
+use Rattle.std.proofs.Common.{◌≡◌, ◌≢◌, ℕ, ◌<◌, Bool, true, false, not, List, [], ◌∷◌, length, map, filter_map, refl, subst, arith, Option, Some, None, IfSome, option_map}
 use Rattle.std.specs.List.{AllByRecursion}
 use Rattle.std.specs.Char.{to_ascii_lowercase}
 use Rattle.std.specs.Ordering.{nat_cmp}
@@ -31,43 +8,9 @@ use Rattle.std.specs.FinMap.{find, nat_cmp-IsAntisymmetric}
 use Rattle.std.proofs.lemmas.Bool.Decides.{nat_tests}
 use Rattle.std.proofs.lemmas.Str.Ascii.{lowercase-lowercase}
 use Rattle.iloc_spec_grammar.specs.Syntax.{LanguageLengths, Field, Block, code_x, code_u, code_t, Text, Kind, Subtag, UnicodeKey, Attribute, PrivateSubtag, is_word, IsWord, normal, lower, word_cmp, is_true, SpelledIdentifier, SpelledUnicode, SpelledTransform, Fields, HasWords, IsKeyword, IsOther, kept, is_other_singleton, lower_singleton, IsPrivate}
-use Rattle.iloc_spec_grammar.specs.Tree.{
-  Extension,
-  unicode,
-  transform,
-  other,
-  Written,
-  IsUnicodeBlock,
-  IsTransformBlock,
-  IsExtension,
-  IsWritten,
-  unicode_part,
-  transform_part,
-  private_part,
-  other_part,
-  by_singleton,
-  extensions_meaning,
-  meaning,
-  TreeMeans,
-  IsTreeWellFormed,
-}
-use Rattle.iloc_spec_grammar.specs.Meaning.{
-  set_of,
-  normal_identifier,
-  normal_values,
-  normal_fields,
-  normal_unicode,
-  normal_transform,
-  Locale,
-}
-use Rattle.iloc_spec_grammar.specs.Values.{
-  IsNormal,
-  StrictlyAscends,
-  IsIdentifierValue,
-  IsUnicodeValue,
-  IsTransformValue,
-  IsValue,
-}
+use Rattle.iloc_spec_grammar.specs.Tree.{Extension, unicode, transform, other, Written, IsUnicodeBlock, IsTransformBlock, IsExtension, IsWritten, unicode_part, transform_part, private_part, other_part, by_singleton, extensions_meaning, meaning, TreeMeans, IsTreeWellFormed}
+use Rattle.iloc_spec_grammar.specs.Meaning.{set_of, normal_identifier, normal_values, normal_fields, normal_unicode, normal_transform, Locale}
+use Rattle.iloc_spec_grammar.specs.Values.{IsNormal, StrictlyAscends, IsIdentifierValue, IsUnicodeValue, IsTransformValue, IsValue}
 use Rattle.iloc_spec_grammar.proofs.WordsLaws.{length-attribute}
 use Rattle.iloc_spec_grammar.proofs.MapLaws.{is_sorted-map_of, all-map_of, word_cmp_total, same_words}
 use Rattle.iloc_spec_grammar.proofs.ValuesLaws.{all_weaker, ascend_as_keys}

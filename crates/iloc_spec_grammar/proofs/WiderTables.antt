@@ -1,17 +1,7 @@
 -- Over a wider table each word, identifier and text keeps its meaning.
 use Rattle.std.proofs.Common.{arith, ◌≡◌, ℕ, Bool, true, List}
 use Rattle.std.proofs.lemmas.Bool.{and_parts, and_from}
-use Rattle.iloc_spec_grammar.specs.Syntax.{
-  Text,
-  Language,
-  two_or_three,
-  languages,
-  is_word,
-  IsWord,
-  SpelledIdentifier,
-  Identifier,
-  IsIdentifier,
-}
+use Rattle.iloc_spec_grammar.specs.Syntax.{Text, Language, two_or_three, languages, is_word, IsWord, SpelledIdentifier, Identifier, IsIdentifier}
 use Rattle.iloc_spec_grammar.specs.Tree.{Extension, transform, IsExtension}
 use Rattle.iloc_spec_grammar.specs.Meaning.{Locale, IdentifierMeans, Means}
 use Rattle.iloc_spec_grammar.specs.Values.{IsIdentifierValue, IsValue}

@@ -1,41 +1,13 @@
 -- Normal words are words, and normal. Kinds that stand side by side have no word in common.
-use Rattle.std.proofs.Common.{◌≡◌, inl, inr, ℕ, zero, suc, ◌≤◌, Bool, true, false, ◌&&◌, ◌||◌, ◌==◌, []}
-use Rattle.std.proofs.Common.{◌∷◌, length, map, slice_index, refl, sym, ap, ap₂, ◌∙◌, arith, ◌↔◌}
+use Rattle.std.proofs.Common.{◌≡◌, inl, inr, ℕ, zero, suc, ◌≤◌, Bool, true, false, ◌&&◌, ◌||◌, ◌==◌, [], ◌∷◌, length, map, slice_index, refl, sym, ap, ap₂, ◌∙◌, arith, ◌↔◌}
 use Rattle.std.specs.List.{list_all}
-use Rattle.std.specs.Char.{
-  is_ascii_alphabetic,
-  is_ascii_digit,
-  is_ascii_alphanumeric,
-  to_ascii_lowercase,
-  to_ascii_uppercase,
-}
+use Rattle.std.specs.Char.{is_ascii_alphabetic, is_ascii_digit, is_ascii_alphanumeric, to_ascii_lowercase, to_ascii_uppercase}
 use Rattle.std.specs.Int.{is_in_range}
 use Rattle.std.proofs.lemmas.Bool.{and_parts, or_cases, false_from_ne_true}
 use Rattle.std.proofs.lemmas.Bool.Decides.{nat_tests}
 use Rattle.std.proofs.lemmas.List.{length-map}
 use Rattle.std.proofs.lemmas.Str.Ascii.{lowercase-lowercase, lowercase-uppercase}
-use Rattle.iloc_spec_grammar.specs.Syntax.{
-  LanguageLengths,
-  Text,
-  Kind,
-  Language,
-  Script,
-  Region,
-  Variant,
-  UnicodeKey,
-  TransformKey,
-  Attribute,
-  CurrencyType,
-  letters,
-  digits,
-  letters_or_digits,
-  is_word,
-  IsWord,
-  lower,
-  upper,
-  title,
-  normal,
-}
+use Rattle.iloc_spec_grammar.specs.Syntax.{LanguageLengths, Text, Kind, Language, Script, Region, Variant, UnicodeKey, TransformKey, Attribute, CurrencyType, letters, digits, letters_or_digits, is_word, IsWord, lower, upper, title, normal}
 use Rattle.iloc_spec_grammar.proofs.General.{map-then, list_all-mapped}
 
 -- bytes

@@ -2,28 +2,8 @@
 use Rattle.std.proofs.Common.{◌≡◌, ◌≤◌, ◌↔◌, inl, inr, ℕ, Bool, true, [], ◌∷◌, refl, arith}
 use Rattle.std.specs.Char.{is_ascii_alphanumeric, to_ascii_lowercase}
 use Rattle.std.proofs.lemmas.Bool.Decides.{nat_tests}
-use Rattle.iloc_spec_grammar.specs.Syntax.{
-  LanguageLengths,
-  Block,
-  code_x,
-  code_u,
-  code_t,
-  Unicode,
-  Transform,
-  IsOther,
-  is_other_singleton,
-  lower_singleton,
-  IsPrivate,
-}
-use Rattle.iloc_spec_grammar.specs.Tree.{
-  Extension,
-  unicode,
-  transform,
-  other,
-  extension_pieces,
-  IsExtension,
-  IsBlock,
-}
+use Rattle.iloc_spec_grammar.specs.Syntax.{LanguageLengths, Block, code_x, code_u, code_t, Unicode, Transform, IsOther, is_other_singleton, lower_singleton, IsPrivate}
+use Rattle.iloc_spec_grammar.specs.Tree.{Extension, unicode, transform, other, extension_pieces, IsExtension, IsBlock}
 use Rattle.iloc_spec_grammar.specs.Meaning.{normal_unicode, normal_transform, AreBlocks}
 use Rattle.iloc_spec_grammar.specs.ByBlocks.{UnicodeMeans, TransformMeans}
 use Rattle.iloc_spec_grammar.proofs.Singletons.{no_u, no_t, no_x}

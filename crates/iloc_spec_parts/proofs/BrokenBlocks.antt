@@ -2,23 +2,7 @@
 use Rattle.std.proofs.Common.{◌≡◌, ℕ, Bool, true, false, List, [], ◌∷◌, refl, sym, ap, arith, true≢false}
 use Rattle.std.specs.List.{AllByRecursion}
 use Rattle.std.proofs.lemmas.Bool.{and_parts, false_from_ne_true, not-true}
-use Rattle.iloc_spec_grammar.specs.Syntax.{
-  LanguageLengths,
-  Block,
-  code_u,
-  code_t,
-  Text,
-  Language,
-  UnicodeKey,
-  TransformKey,
-  Attribute,
-  is_word,
-  IsWord,
-  kept,
-  lower_singleton,
-  is_other_singleton,
-  first_piece,
-}
+use Rattle.iloc_spec_grammar.specs.Syntax.{LanguageLengths, Block, code_u, code_t, Text, Language, UnicodeKey, TransformKey, Attribute, is_word, IsWord, kept, lower_singleton, is_other_singleton, first_piece}
 use Rattle.iloc_spec_grammar.specs.Reading.{is_two, rest_of}
 use Rattle.iloc_spec_grammar.proofs.Readings.{language_no_key, not_two}
 use Rattle.iloc_spec_grammar.proofs.Singletons.{no_u, no_t, no_x}

@@ -1,6 +1,5 @@
 -- Data locales of locales and identifiers.
-use Rattle.std.proofs.Common.{◌≡◌, ℕ, Bool, refl, sym, ap, ◌∙◌, Option, Some, None, IfSome, Ok, Err}
-use Rattle.std.proofs.Common.{option_map, option_and_then, option_to_list}
+use Rattle.std.proofs.Common.{◌≡◌, ℕ, Bool, refl, sym, ap, ◌∙◌, Option, Some, None, IfSome, Ok, Err, option_map, option_and_then, option_to_list}
 use Rattle.std.proofs.lemmas.Bool.{cond_both}
 use Rattle.std.specs.Option.{option_or}
 use Rattle.std.specs.Result.{result_ok}
@@ -12,25 +11,9 @@ use Rattle.iloc_spec_grammar.proofs.SameMeaning.{one_meaning}
 use Rattle.iloc_spec_parts.specs.Small.{SmallLocale, keyword_of_small, locale_of_small}
 use Rattle.iloc_spec_grammar.specs.Reading.{first_item}
 use Rattle.iloc_spec_parts.specs.Subdivisions.{Subdivision, subdivision, subdivision_text}
-use Rattle.iloc_spec_parts.specs.DataLocales.{
-  DataLocale,
-  whole_region,
-  named_subdivision,
-  data_key,
-  made_of,
-  agreed,
-  small_part,
-  DataMeans,
-  data_of_identifier,
-}
+use Rattle.iloc_spec_parts.specs.DataLocales.{DataLocale, whole_region, named_subdivision, data_key, made_of, agreed, small_part, DataMeans, data_of_identifier}
 use Rattle.iloc_spec_parts.specs.Keywords.{subdivision_reads}
-use Rattle.iloc_spec_parts.specs.Preferences.{
-  identifier_preferences,
-  preferences,
-  language_priority,
-  preferred_region,
-  read_keyword,
-}
+use Rattle.iloc_spec_parts.specs.Preferences.{identifier_preferences, preferences, language_priority, preferred_region, read_keyword}
 use Rattle.iloc_spec_parts.proofs.SmallLaws.{first-option, small_means}
 use Rattle.iloc_spec_parts.proofs.Keys.{sd}
 use Rattle.iloc_spec_parts.proofs.SubdivisionLaws.{subdivision_back}

@@ -1,37 +1,5 @@
 -- Data locales: reading and printing.
-use Rattle.std.proofs.Common.{
-  ◌≡◌,
-  ◌≤◌,
-  ◌⊎◌,
-  ℕ,
-  Bool,
-  true,
-  false,
-  cond,
-  List,
-  ◌∷◌,
-  ◌++◌,
-  length,
-  refl,
-  sym,
-  ap,
-  ◌∙◌,
-  arith,
-  Option,
-  Some,
-  None,
-  IfSome,
-  MatchResult,
-  Result,
-  Ok,
-  Err,
-  ok_or,
-  option_map,
-  option_and_then,
-  option_to_list,
-  append_assoc,
-  append-nil,
-}
+use Rattle.std.proofs.Common.{◌≡◌, ◌≤◌, ◌⊎◌, ℕ, Bool, true, false, cond, List, ◌∷◌, ◌++◌, length, refl, sym, ap, ◌∙◌, arith, Option, Some, None, IfSome, MatchResult, Result, Ok, Err, ok_or, option_map, option_and_then, option_to_list, append_assoc, append-nil}
 use Rattle.std.proofs.lemmas.Bool.{cond_both}
 use Rattle.std.proofs.lemmas.Bool.Decides.{nat_tests}
 use Rattle.iloc_spec_grammar.specs.Syntax.{Text, Region, Subtag, UnicodeKey, Attribute, SubdivisionSuffix, is_word, IsWord, AreLengths, lower, is_true}
@@ -48,19 +16,8 @@ use Rattle.iloc_spec_parts.specs.DataLocales.{DataLocale, IsDataLocale, whole, w
 use Rattle.iloc_spec_parts.proofs.Keys.{sd}
 use Rattle.iloc_spec_parts.proofs.SmallLaws.{one_small, small_answer, small_apart, one_small_fault, by_result}
 use Rattle.iloc_spec_parts.specs.SmallComputing.{small_result}
-use Rattle.iloc_spec_parts.proofs.SmallBack.{
-  small_back,
-  small_is_value,
-  small_is_well_formed,
-  read_is_small_value,
-}
-use Rattle.iloc_spec_parts.proofs.SubdivisionLaws.{
-  subdivision_back,
-  subdivision_is_subtag,
-  read_is_subdivision,
-  text_of_read,
-  read_is_long,
-}
+use Rattle.iloc_spec_parts.proofs.SmallBack.{small_back, small_is_value, small_is_well_formed, read_is_small_value}
+use Rattle.iloc_spec_parts.proofs.SubdivisionLaws.{subdivision_back, subdivision_is_subtag, read_is_subdivision, text_of_read, read_is_long}
 
 -- what is read of a text
 

@@ -1,6 +1,5 @@
 -- The orders of subdivisions and data locales are total; data locales tie where they stand for the same.
-use Rattle.std.proofs.Common.{arith}
-use Rattle.std.proofs.Common.{◌≡◌, ◌↔◌, Option, refl}
+use Rattle.std.proofs.Common.{arith, ◌≡◌, ◌↔◌, Option, refl}
 use Rattle.std.specs.declared.cmp.Ordering.TheVariants.{Equal}
 use Rattle.std.specs.Cmp.{IsTotalOrder, on_total}
 use Rattle.iloc_spec_parts.specs.Subdivisions.{Subdivision}

@@ -5,23 +5,9 @@ use Rattle.std.specs.Option.{option_or}
 use Rattle.std.specs.FinMap.{find}
 use Rattle.iloc_spec_grammar.specs.Syntax.{Field, Text, UnicodeKey, Subtag, word_cmp, is_same, Unicode}
 use Rattle.iloc_spec_grammar.specs.Values.{IsNormal, IsUnicodeValue}
-use Rattle.iloc_spec_grammar.proofs.MapLaws.{
-  word_cmp_total,
-  same_words,
-  find-map_of,
-  all-map_of,
-  is_sorted-map_of,
-  map_of_sorted,
-}
+use Rattle.iloc_spec_grammar.proofs.MapLaws.{word_cmp_total, same_words, find-map_of, all-map_of, is_sorted-map_of, map_of_sorted}
 use Rattle.iloc_spec_grammar.proofs.ReadBack.{all_append}
-use Rattle.iloc_spec_grammar.proofs.SetLaws.{
-  find-append,
-  map_of-first,
-  map_of-last,
-  set_of-first,
-  set_of-last,
-  any-set_of,
-}
+use Rattle.iloc_spec_grammar.proofs.SetLaws.{find-append, map_of-first, map_of-last, set_of-first, set_of-last, any-set_of}
 use Rattle.iloc_spec_grammar.proofs.ValuesLaws.{set_of_ascending}
 use Rattle.iloc_spec_grammar.proofs.WellRead.{all-set_of, set_of-ascending}
 use Rattle.iloc_spec_parts.specs.Extending.{extend}

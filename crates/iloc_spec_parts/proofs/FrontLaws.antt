@@ -1,39 +1,10 @@
 -- The readers of what comes after `u`, after other singletons and after `x`.
-use Rattle.std.proofs.Common.{◌≡◌, ◌↔◌, ℕ, ◌+◌, ◌<◌, ◌≤◌, true, false, not, ◌&&◌, ◌||◌}
-use Rattle.std.proofs.Common.{nat_lt, List, [], ◌∷◌, ◌++◌, length, map, refl, sym, ap, ap₂, ◌∙◌, subst, arith}
-use Rattle.std.proofs.Common.{true≢false, append_assoc, Result, Ok, Err}
+use Rattle.std.proofs.Common.{◌≡◌, ◌↔◌, ℕ, ◌+◌, ◌<◌, ◌≤◌, true, false, not, ◌&&◌, ◌||◌, nat_lt, List, [], ◌∷◌, ◌++◌, length, map, refl, sym, ap, ap₂, ◌∙◌, subst, arith, true≢false, append_assoc, Result, Ok, Err}
 use Rattle.std.specs.List.{AllByRecursion, list_any}
-use Rattle.std.proofs.lemmas.Bool.{
-  or_parts,
-  or_cases,
-  not-false,
-  cond_both,
-  false_from_ne_true,
-  eqb-true,
-  ne_eqb,
-  ltb-true,
-}
+use Rattle.std.proofs.lemmas.Bool.{or_parts, or_cases, not-false, cond_both, false_from_ne_true, eqb-true, ne_eqb, ltb-true}
 use Rattle.std.proofs.lemmas.List.{nil_from_length}
 use Rattle.std.proofs.lemmas.Bool.Decides.{nat_tests}
-use Rattle.iloc_spec_grammar.specs.Syntax.{
-  Field,
-  Text,
-  UnicodeKey,
-  Attribute,
-  is_word,
-  IsWord,
-  lower,
-  Fields,
-  SpelledUnicode,
-  Unicode,
-  fields_pieces,
-  unicode_pieces,
-  IsKeyword,
-  IsUnicode,
-  IsOther,
-  kept,
-  front,
-}
+use Rattle.iloc_spec_grammar.specs.Syntax.{Field, Text, UnicodeKey, Attribute, is_word, IsWord, lower, Fields, SpelledUnicode, Unicode, fields_pieces, unicode_pieces, IsKeyword, IsUnicode, IsOther, kept, front}
 use Rattle.iloc_spec_grammar.specs.Tree.{IsUnicodeBlock}
 use Rattle.iloc_spec_grammar.specs.Meaning.{set_of, normal_fields, normal_unicode, Fault, InvalidExtension}
 use Rattle.iloc_spec_grammar.specs.ByBlocks.{UnicodeMeans, OtherMeans}
@@ -41,59 +12,14 @@ use Rattle.iloc_spec_grammar.specs.Reading.{EndsBefore, starts_block, from_block
 use Rattle.iloc_spec_grammar.proofs.WordsLaws.{length-attribute, length-unicode_key}
 use Rattle.iloc_spec_grammar.proofs.ValuesLaws.{all_weaker}
 use Rattle.iloc_spec_grammar.proofs.ReadBack.{all_append}
-use Rattle.iloc_spec_grammar.proofs.Readings.{
-  IsLong,
-  long_attribute,
-  long_between,
-  keywords_pass,
-  not_two,
-  two as two_bytes_of,
-  fields_read,
-}
+use Rattle.iloc_spec_grammar.proofs.Readings.{IsLong, long_attribute, long_between, keywords_pass, not_two, two as two_bytes_of, fields_read}
 use Rattle.iloc_spec_grammar.proofs.ReadingLaws.{front-from_block, from_block_starts, all_while}
 use Rattle.iloc_spec_grammar.specs.Computing.{is_other, is_private}
 use Rattle.iloc_spec_grammar.proofs.RuleTests.{tests_other, tests_not}
 use Rattle.iloc_spec_grammar.proofs.RuleTests as rules
 use Rattle.iloc_spec_parts.specs.Readers.{IsReader, AgreesWithBlocks}
-use Rattle.iloc_spec_parts.specs.Fronts.{
-  attributes_front,
-  after_attributes,
-  is_keyword_piece,
-  keywords_front,
-  after_keywords,
-  is_bad_key,
-  KeywordsRead,
-  KeywordsFault,
-  bad_key,
-  UnicodeRead,
-  UnicodeFault,
-  in_keywords,
-  both_absent,
-  has_other_length,
-  other_front,
-  OtherRead,
-  OtherFault,
-  no_word,
-  PrivateRead,
-  PrivateFault,
-  not_private,
-  keywords_result,
-  attributes_and,
-  unicode_result,
-  other_result,
-  private_result,
-}
-use Rattle.iloc_spec_parts.proofs.FieldLaws.{
-  passing_all,
-  passing_stops,
-  past_stops,
-  all_from_pieces,
-  passing_from_all,
-  front_of_fields,
-  fields_words,
-  fields_stop,
-  pieces_pass,
-}
+use Rattle.iloc_spec_parts.specs.Fronts.{attributes_front, after_attributes, is_keyword_piece, keywords_front, after_keywords, is_bad_key, KeywordsRead, KeywordsFault, bad_key, UnicodeRead, UnicodeFault, in_keywords, both_absent, has_other_length, other_front, OtherRead, OtherFault, no_word, PrivateRead, PrivateFault, not_private, keywords_result, attributes_and, unicode_result, other_result, private_result}
+use Rattle.iloc_spec_parts.proofs.FieldLaws.{passing_all, passing_stops, past_stops, all_from_pieces, passing_from_all, front_of_fields, fields_words, fields_stop, pieces_pass}
 use Rattle.iloc_spec_parts.proofs.ReaderLaws.{reader_of, agreeing, until_block, Answer, Answers}
 use Rattle.std.proofs.Math.Bool.{or-true, and-false}
 

@@ -1,7 +1,5 @@
 -- What values feed a hasher: values that tie feed it alike, and what is fed tells them apart.
-use Rattle.std.proofs.Common.{ℕ, length, false, replicate, Option, append_assoc, length-append, if◌then◌else◌}
-use Rattle.std.proofs.Common.{◌≡◌, zero, suc, ◌^◌, ◌<◌, List, ◌++◌, refl, Bool, true, Some, None, arith}
-use Rattle.std.proofs.Common.{◌≤◌, ◌-◌, [], ◌∷◌, sym, ap, ◌∙◌, ◌↔◌, ◌+◌}
+use Rattle.std.proofs.Common.{ℕ, length, false, replicate, Option, append_assoc, length-append, if◌then◌else◌, ◌≡◌, zero, suc, ◌^◌, ◌<◌, List, ◌++◌, refl, Bool, true, Some, None, arith, ◌≤◌, ◌-◌, [], ◌∷◌, sym, ap, ◌∙◌, ◌↔◌, ◌+◌}
 use Rattle.std.specs.Prelude.{nat_lt}
 use Rattle.std.specs.List.{list_all, flat_map}
 use Rattle.std.proofs.lemmas.List.{length-replicate}
@@ -13,19 +11,7 @@ use Rattle.std.proofs.lemmas.Bool.{and_parts}
 use Rattle.iloc_spec_grammar.specs.Syntax.{Block, Text, Identifier, Fields, Unicode, Transform, before_zero}
 use Rattle.iloc_spec_grammar.specs.Meaning.{Extensions}
 use Rattle.iloc_spec_parts.specs.Orders.{IsExactOrder}
-use Rattle.iloc_spec_parts.specs.Hashes.{
-  HashesByOrder,
-  is_short_text,
-  word_fed,
-  words_fed,
-  identifier_fed,
-  fields_fed,
-  unicode_fed,
-  transform_fed,
-  other_fed,
-  extensions_fed,
-  locale_fed,
-}
+use Rattle.iloc_spec_parts.specs.Hashes.{HashesByOrder, is_short_text, word_fed, words_fed, identifier_fed, fields_fed, unicode_fed, transform_fed, other_fed, extensions_fed, locale_fed}
 use Rattle.iloc_spec_parts.specs.Subdivisions.{Subdivision}
 use Rattle.iloc_spec_parts.specs.DataLocales.{DataLocale, DataKey, data_key}
 use Rattle.iloc_spec_parts.specs.DataOrders.{subdivision_cmp}

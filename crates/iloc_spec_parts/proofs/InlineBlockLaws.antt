@@ -6,33 +6,15 @@ use Rattle.std.proofs.lemmas.Bool.{or_parts, eq-eqb, false_from_ne_true}
 use Rattle.std.proofs.lemmas.Bool.Decides.{nat_tests}
 use Rattle.std.proofs.lemmas.List.{length-map}
 use Rattle.iloc_spec_grammar.specs.Syntax.{LanguageLengths, Block, code_x, code_u, Text, pieces, AreLengths, PrivateSubtag, is_word, lower, word_cmp, Spelled, SpelledIdentifier, SpelledUnicode, SpelledTransform, Fields, identifier_pieces, unicode_pieces, transform_pieces, IsIdentifier, IsUnicode, AllDifferent, is_other_singleton, lower_singleton, head, tail_blocks}
-use Rattle.iloc_spec_grammar.specs.Meaning.{
-  normal_identifier,
-  normal_values,
-  normal_unicode,
-  normal_transform,
-  after,
-}
+use Rattle.iloc_spec_grammar.specs.Meaning.{normal_identifier, normal_values, normal_unicode, normal_transform, after}
 use Rattle.iloc_spec_grammar.specs.Reading.{passing, IdentifierFront}
 use Rattle.iloc_spec_grammar.proofs.IdentifierLaws.{one_identifier}
 use Rattle.iloc_spec_grammar.proofs.SetLaws.{length-set_of-different}
-use Rattle.iloc_spec_parts.specs.Inline.{
-  IsInline,
-  IsShortUnicode,
-  IsShortTransform,
-  IsShortBlock,
-  IsInlineByBlocks,
-  ReachesLongBlock,
-}
+use Rattle.iloc_spec_parts.specs.Inline.{IsInline, IsShortUnicode, IsShortTransform, IsShortBlock, IsInlineByBlocks, ReachesLongBlock}
 use Rattle.iloc_spec_parts.specs.Fronts.{FrontRead, absent, present}
 use Rattle.iloc_spec_parts.proofs.FrontLaws.{unicode_taken, keywords_taken}
 use Rattle.iloc_spec_parts.proofs.KeptLaws.{kept_all, passing_short, some_fields}
-use Rattle.iloc_spec_parts.proofs.ShortFronts.{
-  IsShortByFronts,
-  short_by_fronts,
-  short_unicode_front,
-  none_first,
-}
+use Rattle.iloc_spec_parts.proofs.ShortFronts.{IsShortByFronts, short_by_fronts, short_unicode_front, none_first}
 use Rattle.iloc_spec_parts.proofs.SmallShapes.{no_normal_fields}
 use Rattle.iloc_spec_parts.proofs.TransformLaws.{one_front, one_longest, front_language, transform_spelled}
 use Rattle.iloc_spec_grammar.proofs.SameMeaning.{none_after}

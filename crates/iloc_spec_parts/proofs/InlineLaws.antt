@@ -1,62 +1,13 @@
 -- Inline texts, by their blocks and by the trees that they spell; and a test that says which they are.
-use Rattle.std.proofs.Common.{◌≡◌, ◌≤◌, ◌↔◌, ℕ, Bool, true, nat_le, List, [], ◌∷◌, ◌++◌}
-use Rattle.std.proofs.Common.{length, map, refl, sym, ap, ◌∙◌, subst, true≢false, arith, Result, Ok, Err}
-use Rattle.std.proofs.Common.{Option, Some, None, IfSome, option_map, option_to_list, append-nil}
+use Rattle.std.proofs.Common.{◌≡◌, ◌≤◌, ◌↔◌, ℕ, Bool, true, nat_le, List, [], ◌∷◌, ◌++◌, length, map, refl, sym, ap, ◌∙◌, subst, true≢false, arith, Result, Ok, Err, Option, Some, None, IfSome, option_map, option_to_list, append-nil}
 use Rattle.std.specs.List.{AllByRecursion}
 use Rattle.std.specs.Cmp.{nat_cmp_total}
 use Rattle.std.specs.Ordering.{nat_cmp}
 use Rattle.std.proofs.lemmas.Bool.{eqb-true, leb-true, le-leb, false_from_ne_true}
 use Rattle.std.proofs.lemmas.List.{length-map}
-use Rattle.iloc_spec_grammar.specs.Syntax.{
-  LanguageLengths,
-  Field,
-  Block,
-  code_x,
-  code_u,
-  Text,
-  pieces,
-  lower,
-  SpelledIdentifier,
-  SpelledUnicode,
-  Fields,
-  unicode_pieces,
-  IsUnicode,
-  kept,
-  AllDifferent,
-  AreLengths,
-  head,
-  tail_blocks,
-  lower_singleton,
-  IsPrivate,
-}
-use Rattle.iloc_spec_grammar.specs.Tree.{
-  Extension,
-  unicode,
-  transform,
-  other,
-  Written,
-  IsWritten,
-  IsExtension,
-  spelling,
-  extension_pieces,
-  extension_block,
-  blocks_of,
-  meaning,
-}
-use Rattle.iloc_spec_grammar.specs.Meaning.{
-  Locale,
-  SpelledExtensions,
-  Extensions,
-  Means,
-  IdentifierMeans,
-  SpellsExtensions,
-  normal_identifier,
-  normal_values,
-  normal_fields,
-  normal_extensions,
-  after,
-  Fault,
-}
+use Rattle.iloc_spec_grammar.specs.Syntax.{LanguageLengths, Field, Block, code_x, code_u, Text, pieces, lower, SpelledIdentifier, SpelledUnicode, Fields, unicode_pieces, IsUnicode, kept, AllDifferent, AreLengths, head, tail_blocks, lower_singleton, IsPrivate}
+use Rattle.iloc_spec_grammar.specs.Tree.{Extension, unicode, transform, other, Written, IsWritten, IsExtension, spelling, extension_pieces, extension_block, blocks_of, meaning}
+use Rattle.iloc_spec_grammar.specs.Meaning.{Locale, SpelledExtensions, Extensions, Means, IdentifierMeans, SpellsExtensions, normal_identifier, normal_values, normal_fields, normal_extensions, after, Fault}
 use Rattle.iloc_spec_grammar.specs.Reading.{written_of, fields_from, is_two}
 use Rattle.iloc_spec_grammar.specs.Computing.{locale_result}
 use Rattle.iloc_spec_grammar.proofs.RuleTests.{Tests, tests_and, tests_all, tests_if_some}

@@ -1,29 +1,9 @@
 -- What a reader keeps before a fault.
-use Rattle.std.proofs.Common.{◌≡◌, ◌≤◌, Bool, true, false, List, [], ◌∷◌, ◌++◌, length, refl}
-use Rattle.std.proofs.Common.{sym, ◌∙◌, arith, true≢false}
+use Rattle.std.proofs.Common.{◌≡◌, ◌≤◌, Bool, true, false, List, [], ◌∷◌, ◌++◌, length, refl, sym, ◌∙◌, arith, true≢false}
 use Rattle.std.specs.List.{AllByRecursion}
-use Rattle.iloc_spec_grammar.specs.Syntax.{
-  Field,
-  Text,
-  UnicodeKey,
-  TransformKey,
-  Attribute,
-  IsWord,
-  Fields,
-  IsKeyword,
-  is_one_byte,
-  first_piece,
-  front,
-}
+use Rattle.iloc_spec_grammar.specs.Syntax.{Field, Text, UnicodeKey, TransformKey, Attribute, IsWord, Fields, IsKeyword, is_one_byte, first_piece, front}
 use Rattle.iloc_spec_grammar.specs.Reading.{passing, rest_of}
-use Rattle.iloc_spec_parts.specs.Fronts.{
-  is_field_piece,
-  fields_front,
-  BeginsField,
-  has_other_length,
-  other_front,
-  before_bad_key,
-}
+use Rattle.iloc_spec_parts.specs.Fronts.{is_field_piece, fields_front, BeginsField, has_other_length, other_front, before_bad_key}
 use Rattle.iloc_spec_parts.proofs.TransformLaws.{no_key_empty}
 
 -- keywords

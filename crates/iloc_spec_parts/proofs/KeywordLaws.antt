@@ -5,15 +5,7 @@ use Rattle.iloc_spec_grammar.specs.Syntax.{Text, Script, CurrencyType, is_true, 
 use Rattle.iloc_spec_grammar.specs.Values.{IsNormal}
 use Rattle.iloc_spec_grammar.proofs.WordsLaws.{is_word-lower, normal-lower}
 use Rattle.iloc_spec_parts.specs.SingleValues.{single, currency_reads, currency_gives}
-use Rattle.iloc_spec_parts.specs.Keywords.{
-  EnumKeyword,
-  CommonVariantType,
-  ReadsWhatItGives,
-  subtag_gives,
-  scripts_read,
-  scripts_give,
-  with_first,
-}
+use Rattle.iloc_spec_parts.specs.Keywords.{EnumKeyword, CommonVariantType, ReadsWhatItGives, subtag_gives, scripts_read, scripts_give, with_first}
 
 pub reads_what_it_gives : (k : EnumKeyword) → ReadsWhatItGives k
 unfolding is_true

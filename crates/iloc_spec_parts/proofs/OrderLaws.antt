@@ -9,26 +9,7 @@ use Rattle.std.specs.FinMap.{IsAntisymmetric, nat_cmp-IsAntisymmetric, slice_cmp
 use Rattle.std.proofs.lemmas.Map.Lookups.{exact_pairs}
 use Rattle.iloc_spec_grammar.specs.Syntax.{Block, Text, word_cmp, Identifier, Fields, Unicode, Transform}
 use Rattle.iloc_spec_grammar.specs.Meaning.{Extensions}
-use Rattle.iloc_spec_parts.specs.Orders.{
-  IsExactOrder,
-  pair_cmp,
-  words_cmp,
-  identifier_cmp,
-  keywords_cmp,
-  fields_cmp,
-  unicode_cmp,
-  transform_cmp,
-  other_cmp,
-  extensions_cmp,
-  locale_cmp,
-  ExtensionKind,
-  OfTransform,
-  OfUnicode,
-  OfPrivate,
-  OfOther,
-  place_of_kind,
-  kind_cmp,
-}
+use Rattle.iloc_spec_parts.specs.Orders.{IsExactOrder, pair_cmp, words_cmp, identifier_cmp, keywords_cmp, fields_cmp, unicode_cmp, transform_cmp, other_cmp, extensions_cmp, locale_cmp, ExtensionKind, OfTransform, OfUnicode, OfPrivate, OfOther, place_of_kind, kind_cmp}
 use Rattle.iloc_spec_grammar.specs.ShortLists.{short_cmp}
 
 -- orders of parts

@@ -1,44 +1,15 @@
 -- The readers of single parts with their singletons: what they read, and where the program does.
-use Rattle.std.proofs.Common.{arith, ◌≡◌, Bool, true, List, ◌∷◌, refl, Result, Err, MatchResult, true≢false}
-use Rattle.std.proofs.Common.{ℕ, [], Ok, sym, ◌∙◌}
+use Rattle.std.proofs.Common.{arith, ◌≡◌, Bool, true, List, ◌∷◌, refl, Result, Err, MatchResult, true≢false, ℕ, [], Ok, sym, ◌∙◌}
 use Rattle.std.specs.Char.{to_ascii_lowercase}
 use Rattle.iloc_spec_grammar.specs.Meaning.{Fault}
 use Rattle.std.proofs.lemmas.Bool.{cond_both}
 use Rattle.iloc_spec_parts.specs.Parts.{PartRead, PartFault, no_singleton, after_singleton, is_letter}
 use Rattle.iloc_spec_parts.specs.PartComputing.{with_singleton, part_result}
-use Rattle.iloc_spec_grammar.specs.Syntax.{
-  Text,
-  LanguageLengths,
-  code_x,
-  code_u,
-  code_t,
-  AreLengths,
-  is_other_singleton,
-}
+use Rattle.iloc_spec_grammar.specs.Syntax.{Text, LanguageLengths, code_x, code_u, code_t, AreLengths, is_other_singleton}
 use Rattle.iloc_spec_parts.specs.Readers.{IsReader}
 use Rattle.iloc_spec_parts.proofs.ReaderLaws.{reader_of, Answers}
-use Rattle.iloc_spec_parts.specs.Fronts.{
-  UnicodeRead,
-  UnicodeFault,
-  TransformRead,
-  TransformFault,
-  OtherRead,
-  OtherFault,
-  PrivateRead,
-  PrivateFault,
-  unicode_result,
-  transform_result,
-  other_result,
-  private_result,
-}
-use Rattle.iloc_spec_parts.proofs.FrontLaws.{
-  unicode_reader,
-  unicode_answer,
-  other_reader,
-  other_answer,
-  private_reader,
-  private_answer,
-}
+use Rattle.iloc_spec_parts.specs.Fronts.{UnicodeRead, UnicodeFault, TransformRead, TransformFault, OtherRead, OtherFault, PrivateRead, PrivateFault, unicode_result, transform_result, other_result, private_result}
+use Rattle.iloc_spec_parts.proofs.FrontLaws.{unicode_reader, unicode_answer, other_reader, other_answer, private_reader, private_answer}
 use Rattle.iloc_spec_parts.proofs.TransformLaws.{transform_reader, transform_answer}
 
 -- The program reads a part where its reader does, and finds its fault.

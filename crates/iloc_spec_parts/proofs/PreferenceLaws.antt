@@ -1,23 +1,10 @@
 -- Preferences: what extending and the way to a locale and back keep.
-use Rattle.std.proofs.Common.{◌≡◌, ◌≢◌, ℕ, Bool, true, false, cond, List, [], ◌∷◌, ◌++◌, length, arith, refl}
-use Rattle.std.proofs.Common.{sym, ap, Option, Some, None, Ok, Err, IfSome, option_map, option_and_then}
-use Rattle.std.proofs.Common.{codes, length-append, true≢false, ◌&&◌, ◌||◌, is_none, is_some}
+use Rattle.std.proofs.Common.{◌≡◌, ◌≢◌, ℕ, Bool, true, false, cond, List, [], ◌∷◌, ◌++◌, length, arith, refl, sym, ap, Option, Some, None, Ok, Err, IfSome, option_map, option_and_then, codes, length-append, true≢false, ◌&&◌, ◌||◌, is_none, is_some}
 use Rattle.std.specs.Option.{option_or}
 use Rattle.std.specs.Result.{result_ok}
 use Rattle.std.specs.List.{AllByRecursion}
 use Rattle.std.specs.FinMap.{find, is_sorted}
-use Rattle.iloc_spec_grammar.specs.Syntax.{
-  Field,
-  Text,
-  AreLengths,
-  Subtag,
-  UnicodeKey,
-  word_cmp,
-  is_same,
-  is_word,
-  lower,
-  is_true,
-}
+use Rattle.iloc_spec_grammar.specs.Syntax.{Field, Text, AreLengths, Subtag, UnicodeKey, word_cmp, is_same, is_word, lower, is_true}
 use Rattle.iloc_spec_grammar.specs.Meaning.{Locale}
 use Rattle.iloc_spec_grammar.specs.Values.{IsNormal, IsValue, IsWellFormed}
 use Rattle.iloc_spec_grammar.proofs.ValuesLaws.{all_weaker}
@@ -27,40 +14,11 @@ use Rattle.iloc_spec_parts.specs.Subdivisions.{Subdivision, IsSubdivision, subdi
 use Rattle.iloc_spec_parts.specs.DataLocales.{is_whole, whole}
 use Rattle.iloc_spec_parts.specs.Keywords.{subdivision_reads, subdivision_gives}
 use Rattle.std.proofs.lemmas.Bool.{and_parts, and_from, false_from_ne_true, cond_both}
-use Rattle.iloc_spec_parts.specs.Preferences.{
-  is_strict,
-  same_region,
-  Preferences,
-  IsPreferences,
-  SpellsNoTrue,
-  und,
-  default_preferences,
-  preferred_region,
-  preferences,
-  merge_language,
-  merge_region,
-  merge,
-  sd_entry,
-  rg_entry,
-  locale_of_preferences,
-}
-use Rattle.iloc_spec_parts.specs.Formatters.{
-  FormatPreferences,
-  TimePreferences,
-  plain_time,
-  plain_format,
-  merge_time,
-  merge_format,
-}
+use Rattle.iloc_spec_parts.specs.Preferences.{is_strict, same_region, Preferences, IsPreferences, SpellsNoTrue, und, default_preferences, preferred_region, preferences, merge_language, merge_region, merge, sd_entry, rg_entry, locale_of_preferences}
+use Rattle.iloc_spec_parts.specs.Formatters.{FormatPreferences, TimePreferences, plain_time, plain_format, merge_time, merge_format}
 use Rattle.iloc_spec_parts.proofs.Keys.{sd, rg}
 use Rattle.iloc_spec_parts.proofs.SmallLaws.{first-option}
-use Rattle.iloc_spec_parts.proofs.SubdivisionLaws.{
-  subdivision_back,
-  subdivision_is_subtag,
-  text_of_read,
-  read_is_long,
-  read_is_subdivision,
-}
+use Rattle.iloc_spec_parts.proofs.SubdivisionLaws.{subdivision_back, subdivision_is_subtag, text_of_read, read_is_long, read_is_subdivision}
 use Rattle.iloc_spec_parts.proofs.DataLaws.{sd_key, whole_region_is}
 use Rattle.iloc_spec_parts.proofs.SmallBack.{one_normal, one_ascends}
 use Rattle.iloc_spec_grammar.proofs.MapLaws.{same_itself, same_is}

@@ -1,46 +1,13 @@
 -- A reader reads the whole of a block exactly where the block means what is read.
-use Rattle.std.proofs.Common.{◌≡◌, ◌≢◌, ◌⊎◌, inl, inr, ◌↔◌, ℕ, List, [], ◌∷◌, refl, sym}
-use Rattle.std.proofs.Common.{◌∙◌, arith, Option, Some, None, IfSome}
+use Rattle.std.proofs.Common.{◌≡◌, ◌≢◌, ◌⊎◌, inl, inr, ◌↔◌, ℕ, List, [], ◌∷◌, refl, sym, ◌∙◌, arith, Option, Some, None, IfSome}
 use Rattle.std.specs.List.{AllByRecursion}
 use Rattle.std.specs.Ordering.{nat_cmp}
 use Rattle.std.specs.FinMap.{find}
 use Rattle.std.proofs.lemmas.Bool.{cond_both, eqb-true}
-use Rattle.iloc_spec_grammar.specs.Syntax.{
-  LanguageLengths,
-  Block,
-  code_x,
-  code_u,
-  code_t,
-  Text,
-  AreLengths,
-  Unicode,
-  Transform,
-  kept,
-  lower_singleton,
-  front,
-  blocks,
-  tail_blocks,
-}
-use Rattle.iloc_spec_grammar.specs.Meaning.{
-  Locale,
-  Extensions,
-  Means,
-  no_unicode,
-  no_transform,
-  Fault,
-  other_blocks,
-}
+use Rattle.iloc_spec_grammar.specs.Syntax.{LanguageLengths, Block, code_x, code_u, code_t, Text, AreLengths, Unicode, Transform, kept, lower_singleton, front, blocks, tail_blocks}
+use Rattle.iloc_spec_grammar.specs.Meaning.{Locale, Extensions, Means, no_unicode, no_transform, Fault, other_blocks}
 use Rattle.iloc_spec_grammar.specs.Tree.{by_singleton}
-use Rattle.iloc_spec_grammar.specs.ByBlocks.{
-  UnicodeMeans,
-  TransformMeans,
-  OtherMeans,
-  Rules,
-  grammar_rules,
-  PartIs,
-  BlocksGive,
-  MeansBy,
-}
+use Rattle.iloc_spec_grammar.specs.ByBlocks.{UnicodeMeans, TransformMeans, OtherMeans, Rules, grammar_rules, PartIs, BlocksGive, MeansBy}
 use Rattle.iloc_spec_grammar.specs.Reading.{from_block}
 use Rattle.iloc_spec_grammar.proofs.ValuesLaws.{all_weaker, all_both}
 use Rattle.iloc_spec_grammar.proofs.SameMeaning.{means_by_blocks, blocks_mean}

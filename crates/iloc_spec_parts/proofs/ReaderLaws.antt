@@ -1,22 +1,5 @@
 -- What follows for every reader of a front.
-use Rattle.std.proofs.Common.{
-  arith,
-  ◌≡◌,
-  ◌⊎◌,
-  inl,
-  inr,
-  true,
-  List,
-  [],
-  ◌∷◌,
-  ◌++◌,
-  refl,
-  true≢false,
-  Result,
-  Ok,
-  Err,
-  MatchResult,
-}
+use Rattle.std.proofs.Common.{arith, ◌≡◌, ◌⊎◌, inl, inr, true, List, [], ◌∷◌, ◌++◌, refl, true≢false, Result, Ok, Err, MatchResult}
 use Rattle.std.specs.List.{AllByRecursion}
 use Rattle.iloc_spec_grammar.specs.Meaning.{Fault}
 use Rattle.iloc_spec_grammar.specs.Syntax.{Text, front}

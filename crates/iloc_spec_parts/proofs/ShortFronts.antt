@@ -1,65 +1,22 @@
 -- Short blocks: they are short whatever follows them. And other words for them: by the longest front
 -- of an identifier, and by the singletons that were seen.
-use Rattle.std.proofs.Common.{◌≡◌, ◌↔◌, ℕ, ◌≤◌, Bool, true, false, cond, ◌||◌, List, [], ◌∷◌, ◌++◌}
-use Rattle.std.proofs.Common.{length, map, refl, sym, ap, ◌∙◌, subst, arith, Option, true≢false}
+use Rattle.std.proofs.Common.{◌≡◌, ◌↔◌, ℕ, ◌≤◌, Bool, true, false, cond, ◌||◌, List, [], ◌∷◌, ◌++◌, length, map, refl, sym, ap, ◌∙◌, subst, arith, Option, true≢false}
 use Rattle.std.proofs.lemmas.Bool.{cond_both, false_from_ne_true, eqb-true, or_parts, both_ways, or_from}
-use Rattle.iloc_spec_grammar.specs.Syntax.{
-  LanguageLengths,
-  Block,
-  Text,
-  Kind,
-  Language,
-  Attribute,
-  is_word,
-  IsWord,
-  AreLengths,
-  lower,
-  word_cmp,
-  SpelledIdentifier,
-  lower_singleton,
-  first_piece,
-}
+use Rattle.iloc_spec_grammar.specs.Syntax.{LanguageLengths, Block, Text, Kind, Language, Attribute, is_word, IsWord, AreLengths, lower, word_cmp, SpelledIdentifier, lower_singleton, first_piece}
 use Rattle.iloc_spec_grammar.specs.Tree.{HasSingleton, IsNew, IsBlock}
 use Rattle.iloc_spec_grammar.specs.Meaning.{RepeatsVariant, IsSecond}
-use Rattle.iloc_spec_grammar.specs.Reading.{
-  EndsBefore,
-  starts_block,
-  is_two,
-  after_region,
-  front_of,
-  after_front,
-  IdentifierFront,
-}
+use Rattle.iloc_spec_grammar.specs.Reading.{EndsBefore, starts_block, is_two, after_region, front_of, after_front, IdentifierFront}
 use Rattle.iloc_spec_grammar.specs.Computing.{all_different}
 use Rattle.iloc_spec_grammar.proofs.WordsLaws.{length-language, length-transform_key}
 use Rattle.iloc_spec_grammar.proofs.FaultLaws.{AreGood}
 use Rattle.iloc_spec_grammar.proofs.Readings.{IsLong, long_script, long_region, long_variant, long_attribute}
-use Rattle.iloc_spec_grammar.proofs.ReadingLaws.{
-  front_is_front,
-  skip_while-append,
-  skip_first-append,
-  keep_while-append,
-}
+use Rattle.iloc_spec_grammar.proofs.ReadingLaws.{front_is_front, skip_while-append, skip_first-append, keep_while-append}
 use Rattle.iloc_spec_grammar.proofs.RuleTests.{tests_different, tests_not}
 use Rattle.iloc_spec_grammar.proofs.SameMeaning.{blocks_spelled}
-use Rattle.iloc_spec_parts.specs.Fronts.{
-  is_keyword_piece,
-  keywords_front,
-  FrontRead,
-  absent,
-  present,
-  BeginsField,
-}
+use Rattle.iloc_spec_parts.specs.Fronts.{is_keyword_piece, keywords_front, FrontRead, absent, present, BeginsField}
 use Rattle.iloc_spec_parts.specs.Inline.{IsShortUnicode, IsShortTransform, IsShortBlock, ReachesLongBlock}
 use Rattle.iloc_spec_parts.proofs.FrontLaws.{block_ends, not_attribute}
-use Rattle.iloc_spec_parts.proofs.TransformLaws.{
-  front_language,
-  one_longest,
-  no_empty_language,
-  no_key_empty,
-  read_no_repeats,
-  repeats_in_block,
-}
+use Rattle.iloc_spec_parts.proofs.TransformLaws.{front_language, one_longest, no_empty_language, no_key_empty, read_no_repeats, repeats_in_block}
 
 -- a front that ends before the rest
 

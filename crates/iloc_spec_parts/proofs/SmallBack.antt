@@ -2,55 +2,18 @@
 use Rattle.std.proofs.Common.{◌≡◌, ◌≤◌, ℕ, Bool, false, not, List, [], ◌∷◌, length, map, refl, ap, ◌∙◌, arith, Option, Some, None, IfSome, option_map, option_to_list}
 use Rattle.std.specs.List.{AllByRecursion}
 use Rattle.std.proofs.lemmas.Bool.{both_ways, cond_both, not-true}
-use Rattle.iloc_spec_grammar.specs.Syntax.{
-  code_u,
-  Text,
-  pieces,
-  join,
-  AreLengths,
-  Kind,
-  Language,
-  Script,
-  Region,
-  Variant,
-  UnicodeKey,
-  Attribute,
-  IsWord,
-  lower,
-  is_true,
-  HasWords,
-  word_cmp,
-}
+use Rattle.iloc_spec_grammar.specs.Syntax.{code_u, Text, pieces, join, AreLengths, Kind, Language, Script, Region, Variant, UnicodeKey, Attribute, IsWord, lower, is_true, HasWords, word_cmp}
 use Rattle.iloc_spec_grammar.specs.Tree.{IsWritten, spelling, printed, spelled_identifier}
 use Rattle.iloc_spec_grammar.specs.Meaning.{normal_values}
-use Rattle.iloc_spec_grammar.specs.Values.{
-  IsNormal,
-  StrictlyAscends,
-  IsValue,
-  IsWellFormed,
-  IsIdentifierValue,
-  text,
-}
+use Rattle.iloc_spec_grammar.specs.Values.{IsNormal, StrictlyAscends, IsValue, IsWellFormed, IsIdentifierValue, text}
 use Rattle.iloc_spec_grammar.proofs.ReadBack.{pieces_spelled, OfWords}
 use Rattle.iloc_spec_grammar.proofs.ValuesLaws.{value_identifier, optional_fixed}
 use Rattle.iloc_spec_grammar.proofs.WellRead.{option_normal}
 use Rattle.iloc_spec_grammar.proofs.Corollaries.{means_a_value, read_well_formed}
 use Rattle.iloc_spec_grammar.proofs.SameText.{text_is}
-use Rattle.iloc_spec_parts.specs.Small.{
-  SmallLocale,
-  identifier_of_small,
-  locale_of_small,
-  IsSmall,
-  IsSmallValue,
-}
+use Rattle.iloc_spec_parts.specs.Small.{SmallLocale, identifier_of_small, locale_of_small, IsSmall, IsSmallValue}
 use Rattle.iloc_spec_parts.proofs.SmallShapes.{WrittenKeyword, small_keyword, one_at_most, first-option}
-use Rattle.iloc_spec_parts.proofs.SmallTrees.{
-  keyword_extension,
-  small_written,
-  IsTreeSmall,
-  tree_is_small,
-  small_is_tree,
-}
+use Rattle.iloc_spec_parts.proofs.SmallTrees.{keyword_extension, small_written, IsTreeSmall, tree_is_small, small_is_tree}
 use Rattle.iloc_spec_grammar.specs.Reading.{first_item}
 use Rattle.iloc_spec_parts.proofs.SmallLaws.{small_means}
 use Rattle.iloc_spec_grammar.proofs.ReadWords.{IsNormal-normal}

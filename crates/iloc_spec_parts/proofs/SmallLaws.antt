@@ -1,101 +1,20 @@
 -- Small texts: each text is small in one way, or has one fault; and a small text is a locale.
-use Rattle.std.proofs.Common.{◌≡◌, ◌≢◌, ◌⊎◌, inl, inr, ℕ, ◌≤◌, Bool, true, false, ◌&&◌, ◌==◌, nat_le}
-use Rattle.std.proofs.Common.{List, [], ◌∷◌, length, refl, sym, ap, ◌∙◌, arith, Option, Some, None, IfSome}
-use Rattle.std.proofs.Common.{MatchResult, Result, Ok, Err, option_map, option_to_list, true≢false}
+use Rattle.std.proofs.Common.{◌≡◌, ◌≢◌, ◌⊎◌, inl, inr, ℕ, ◌≤◌, Bool, true, false, ◌&&◌, ◌==◌, nat_le, List, [], ◌∷◌, length, refl, sym, ap, ◌∙◌, arith, Option, Some, None, IfSome, MatchResult, Result, Ok, Err, option_map, option_to_list, true≢false}
 use Rattle.std.specs.List.{AllByRecursion, list_all}
 use Rattle.std.specs.Char.{is_ascii_alphanumeric}
-use Rattle.std.proofs.lemmas.Bool.{
-  and_parts,
-  and_from,
-  cond_both,
-  false_from_ne_true,
-  leb-true,
-  le-leb,
-  eqb-true,
-  eqb-false,
-  eq-eqb,
-  ne_eqb,
-}
-use Rattle.iloc_spec_grammar.specs.Syntax.{
-  LanguageLengths,
-  Field,
-  Block,
-  code_u,
-  Text,
-  pieces,
-  Kind,
-  Language,
-  Variant,
-  UnicodeKey,
-  Attribute,
-  is_word,
-  IsWord,
-  AreLengths,
-  SpelledIdentifier,
-  HasWords,
-  lower_singleton,
-  head,
-  tail_blocks,
-  front,
-  first_piece,
-}
+use Rattle.std.proofs.lemmas.Bool.{and_parts, and_from, cond_both, false_from_ne_true, leb-true, le-leb, eqb-true, eqb-false, eq-eqb, ne_eqb}
+use Rattle.iloc_spec_grammar.specs.Syntax.{LanguageLengths, Field, Block, code_u, Text, pieces, Kind, Language, Variant, UnicodeKey, Attribute, is_word, IsWord, AreLengths, SpelledIdentifier, HasWords, lower_singleton, head, tail_blocks, front, first_piece}
 use Rattle.iloc_spec_grammar.specs.Meaning.{Locale, Means, normal_values, IdentifierMeans, Fault}
 use Rattle.iloc_spec_grammar.proofs.WordsLaws.{length-attribute, length-unicode_key}
-use Rattle.iloc_spec_grammar.proofs.IdentifierLaws.{
-  one_identifier,
-  pieces-identifier_of,
-  identifier_of-pieces,
-}
+use Rattle.iloc_spec_grammar.proofs.IdentifierLaws.{one_identifier, pieces-identifier_of, identifier_of-pieces}
 use Rattle.iloc_spec_grammar.specs.Reading.{take_first, first_item, identifier_of}
 use Rattle.iloc_spec_grammar.proofs.Readings.{one_meaning}
 use Rattle.iloc_spec_grammar.proofs.PiecesLaws.{pieces_nonempty}
 use Rattle.iloc_spec_grammar.proofs.RuleTests.{Tests, tests_all, tests_word}
-use Rattle.iloc_spec_parts.specs.SmallComputing.{
-  small_identifier,
-  has_small_variants,
-  small_identifier_result,
-  block_fault,
-  has_small_keyword,
-  is_u,
-  is_small_block,
-  keyword_read,
-  blocks_result,
-  after_identifier,
-  small_result,
-}
-use Rattle.iloc_spec_parts.proofs.SmallShapes.{
-  small_identifier_of,
-  one_variant,
-  small_identifier_is,
-  WrittenKeyword,
-  keyword_blocks,
-  IsSmallKeyword,
-  keyword_spelled,
-  small_by_keyword,
-  u_letter,
-}
+use Rattle.iloc_spec_parts.specs.SmallComputing.{small_identifier, has_small_variants, small_identifier_result, block_fault, has_small_keyword, is_u, is_small_block, keyword_read, blocks_result, after_identifier, small_result}
+use Rattle.iloc_spec_parts.proofs.SmallShapes.{small_identifier_of, one_variant, small_identifier_is, WrittenKeyword, keyword_blocks, IsSmallKeyword, keyword_spelled, small_by_keyword, u_letter}
 use Rattle.iloc_spec_grammar.proofs.SameMeaning.{tree_means}
-use Rattle.iloc_spec_parts.specs.Small.{
-  SmallIdentifier,
-  SmallLocale,
-  identifier_of_small,
-  keyword_of_small,
-  locale_of_small,
-  IsSmallIdentifier,
-  IsSmall,
-  HasSmallIdentifierFault,
-  no_language,
-  no_identifier,
-  SmallBlockFault,
-  no_singleton,
-  not_u,
-  attribute,
-  no_key,
-  after_key,
-  HasSmallFault,
-  bad_head,
-  bad_block,
-}
+use Rattle.iloc_spec_parts.specs.Small.{SmallIdentifier, SmallLocale, identifier_of_small, keyword_of_small, locale_of_small, IsSmallIdentifier, IsSmall, HasSmallIdentifierFault, no_language, no_identifier, SmallBlockFault, no_singleton, not_u, attribute, no_key, after_key, HasSmallFault, bad_head, bad_block}
 pub use Rattle.iloc_spec_parts.proofs.SmallShapes.{short_different, first-option}
 
 -- identifiers

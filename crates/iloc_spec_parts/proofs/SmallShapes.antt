@@ -1,35 +1,6 @@
 -- What small texts are made of: an identifier with one variant at most, and no block or one of `u`
 -- with a keyword.
-use Rattle.std.proofs.Common.{
-  ◌≡◌,
-  ℕ,
-  ◌<◌,
-  ◌≤◌,
-  Bool,
-  true,
-  false,
-  cond,
-  List,
-  [],
-  ◌∷◌,
-  ◌++◌,
-  length,
-  map,
-  filter,
-  refl,
-  sym,
-  ap,
-  ◌∙◌,
-  arith,
-  Option,
-  Some,
-  None,
-  IfSome,
-  option_map,
-  option_to_list,
-  true≢false,
-  append-nil,
-}
+use Rattle.std.proofs.Common.{◌≡◌, ℕ, ◌<◌, ◌≤◌, Bool, true, false, cond, List, [], ◌∷◌, ◌++◌, length, map, filter, refl, sym, ap, ◌∙◌, arith, Option, Some, None, IfSome, option_map, option_to_list, true≢false, append-nil}
 use Rattle.std.specs.List.{AllByRecursion}
 use Rattle.std.specs.Char.{is_ascii_alphanumeric, to_ascii_lowercase}
 use Rattle.std.specs.Ordering.{nat_cmp}
@@ -39,73 +10,13 @@ use Rattle.std.specs.FinMap.{find}
 use Rattle.std.proofs.lemmas.Bool.{or_parts, eq-eqb, false_from_ne_true, both_ways}
 use Rattle.std.proofs.lemmas.Bool.Decides.{nat_tests}
 use Rattle.std.proofs.lemmas.List.{length-map}
-use Rattle.iloc_spec_grammar.specs.Syntax.{
-  Field,
-  Block,
-  code_x,
-  code_u,
-  code_t,
-  Text,
-  pieces,
-  UnicodeKey,
-  Attribute,
-  IsWord,
-  lower,
-  word_cmp,
-  Spelled,
-  SpelledIdentifier,
-  SpelledTransform,
-  Identifier,
-  Transform,
-  Fields,
-  identifier_pieces,
-  fields_pieces,
-  transform_pieces,
-  IsIdentifier,
-  AllDifferent,
-  kept,
-  is_other_singleton,
-  lower_singleton,
-  head,
-  tail_blocks,
-}
-use Rattle.iloc_spec_grammar.specs.Meaning.{
-  SpelledExtensions,
-  Extensions,
-  map_of,
-  set_of,
-  normal_identifier,
-  normal_values,
-  normal_fields,
-  normal_extensions,
-  just_unicode,
-  no_transform,
-  SpellsExtensions,
-  after,
-}
+use Rattle.iloc_spec_grammar.specs.Syntax.{Field, Block, code_x, code_u, code_t, Text, pieces, UnicodeKey, Attribute, IsWord, lower, word_cmp, Spelled, SpelledIdentifier, SpelledTransform, Identifier, Transform, Fields, identifier_pieces, fields_pieces, transform_pieces, IsIdentifier, AllDifferent, kept, is_other_singleton, lower_singleton, head, tail_blocks}
+use Rattle.iloc_spec_grammar.specs.Meaning.{SpelledExtensions, Extensions, map_of, set_of, normal_identifier, normal_values, normal_fields, normal_extensions, just_unicode, no_transform, SpellsExtensions, after}
 use Rattle.iloc_spec_grammar.specs.Reading.{first_item}
 use Rattle.iloc_spec_grammar.proofs.MapLaws.{word_cmp_total, find-map_of}
 use Rattle.iloc_spec_grammar.proofs.SetLaws.{length-set_of-different}
-use Rattle.iloc_spec_grammar.proofs.Singletons.{
-  self_tied,
-  IsKind,
-  of_u,
-  of_t,
-  of_x,
-  another,
-  kind_of,
-  lower_letter,
-  no_u,
-}
-use Rattle.iloc_spec_parts.specs.Small.{
-  SmallIdentifier,
-  SmallLocale,
-  identifier_of_small,
-  keyword_of_small,
-  locale_of_small,
-  IsSmallIdentifier,
-  IsSmall,
-}
+use Rattle.iloc_spec_grammar.proofs.Singletons.{self_tied, IsKind, of_u, of_t, of_x, another, kind_of, lower_letter, no_u}
+use Rattle.iloc_spec_parts.specs.Small.{SmallIdentifier, SmallLocale, identifier_of_small, keyword_of_small, locale_of_small, IsSmallIdentifier, IsSmall}
 use Rattle.iloc_spec_parts.specs.SmallComputing.{small_identifier}
 
 -- lists of at most one item

@@ -1,83 +1,18 @@
 -- Small texts by the trees that they spell.
-use Rattle.std.proofs.Common.{
-  ◌≡◌,
-  ◌≢◌,
-  ℕ,
-  ◌≤◌,
-  Bool,
-  false,
-  ◌==◌,
-  List,
-  [],
-  ◌∷◌,
-  ◌++◌,
-  length,
-  map,
-  flat_map,
-  refl,
-  sym,
-  ap,
-  ◌∙◌,
-  arith,
-  Option,
-  Some,
-  None,
-  IfSome,
-  option_map,
-  append-nil,
-}
+use Rattle.std.proofs.Common.{◌≡◌, ◌≢◌, ℕ, ◌≤◌, Bool, false, ◌==◌, List, [], ◌∷◌, ◌++◌, length, map, flat_map, refl, sym, ap, ◌∙◌, arith, Option, Some, None, IfSome, option_map, append-nil}
 use Rattle.std.specs.List.{AllByRecursion}
 use Rattle.std.proofs.lemmas.Bool.{ne_eqb, both_ways}
-use Rattle.iloc_spec_grammar.specs.Syntax.{
-  LanguageLengths,
-  code_x,
-  Text,
-  pieces,
-  UnicodeKey,
-  IsWord,
-  SpelledIdentifier,
-  HasWords,
-  head,
-  tail_blocks,
-  blocks,
-  lower_singleton,
-}
-use Rattle.iloc_spec_grammar.specs.Tree.{
-  Extension,
-  unicode,
-  Written,
-  IsWritten,
-  spelling,
-  block_pieces,
-  extension_block,
-}
+use Rattle.iloc_spec_grammar.specs.Syntax.{LanguageLengths, code_x, Text, pieces, UnicodeKey, IsWord, SpelledIdentifier, HasWords, head, tail_blocks, blocks, lower_singleton}
+use Rattle.iloc_spec_grammar.specs.Tree.{Extension, unicode, Written, IsWritten, spelling, block_pieces, extension_block}
 use Rattle.iloc_spec_grammar.specs.Meaning.{normal_values}
 use Rattle.iloc_spec_grammar.proofs.FaultLaws.{head-and-blocks}
 use Rattle.iloc_spec_grammar.proofs.PiecesLaws.{pieces_nonempty}
-use Rattle.iloc_spec_grammar.proofs.Readings.{
-  IsLong,
-  long_attribute,
-  after_language,
-  long_after_language,
-  blocks_past,
-  head-spelling,
-  blocks_spelled,
-}
+use Rattle.iloc_spec_grammar.proofs.Readings.{IsLong, long_attribute, after_language, long_after_language, blocks_past, head-spelling, blocks_spelled}
 use Rattle.iloc_spec_grammar.proofs.WordsLaws.{length-unicode_key}
 use Rattle.iloc_spec_grammar.proofs.ValuesLaws.{all_weaker}
 use Rattle.iloc_spec_parts.specs.Small.{SmallLocale, IsSmall}
 use Rattle.iloc_spec_parts.specs.SmallComputing.{small_identifier}
-use Rattle.iloc_spec_parts.proofs.SmallShapes.{
-  WrittenKeyword,
-  small_keyword,
-  keyword_blocks,
-  IsSmallKeyword,
-  small_identifier_of,
-  one_variant,
-  small_identifier_is,
-  keyword_spelled,
-  small_by_keyword,
-}
+use Rattle.iloc_spec_parts.proofs.SmallShapes.{WrittenKeyword, small_keyword, keyword_blocks, IsSmallKeyword, small_identifier_of, one_variant, small_identifier_is, keyword_spelled, small_by_keyword}
 
 -- no extension, or one keyword after its singleton
 abbrev pub keyword_extension : Option WrittenKeyword → List (ℕ × Extension)

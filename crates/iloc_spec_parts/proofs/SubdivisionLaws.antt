@@ -7,41 +7,10 @@ use Rattle.std.proofs.lemmas.List.Folds.{list_all-append}
 use Rattle.std.proofs.Math.Seq.{take-append_seam, drop-append_seam}
 use Rattle.std.proofs.lemmas.Bool.Decides.{nat_tests}
 use Rattle.std.proofs.lemmas.List.{map-append}
-use Rattle.iloc_spec_grammar.specs.Syntax.{
-  Text,
-  Region,
-  Subtag,
-  SubdivisionSuffix,
-  is_word,
-  IsWord,
-  word,
-  lower,
-  upper,
-  letters,
-  digits,
-}
+use Rattle.iloc_spec_grammar.specs.Syntax.{Text, Region, Subtag, SubdivisionSuffix, is_word, IsWord, word, lower, upper, letters, digits}
 use Rattle.iloc_spec_grammar.specs.Meaning.{InvalidExtension}
-use Rattle.iloc_spec_grammar.proofs.WordsLaws.{
-  is_word-lower,
-  is_word-normal,
-  normal-normal,
-  lower-lower,
-  lower-upper,
-  upper-lower,
-  length-region,
-  every,
-  letter_is,
-  digit_is,
-  digit_no_letter,
-}
-use Rattle.iloc_spec_parts.specs.Subdivisions.{
-  Subdivision,
-  IsSubdivision,
-  region_length,
-  both_words,
-  subdivision,
-  subdivision_text,
-}
+use Rattle.iloc_spec_grammar.proofs.WordsLaws.{is_word-lower, is_word-normal, normal-normal, lower-lower, lower-upper, upper-lower, length-region, every, letter_is, digit_is, digit_no_letter}
+use Rattle.iloc_spec_parts.specs.Subdivisions.{Subdivision, IsSubdivision, region_length, both_words, subdivision, subdivision_text}
 
 -- regions
 

@@ -1,42 +1,5 @@
 -- The reader of what comes after `t`: the longest front of an identifier, and fields.
-use Rattle.std.proofs.Common.{
-  ◌≡◌,
-  ◌↔◌,
-  ℕ,
-  ◌<◌,
-  ◌≤◌,
-  Bool,
-  true,
-  false,
-  ◌&&◌,
-  ◌||◌,
-  nat_lt,
-  List,
-  [],
-  ◌∷◌,
-  ◌++◌,
-  length,
-  take,
-  drop,
-  length-append,
-  map,
-  refl,
-  sym,
-  ap,
-  ◌∙◌,
-  arith,
-  Option,
-  Some,
-  None,
-  IfSome,
-  is_some,
-  option_to_list,
-  true≢false,
-  append_assoc,
-  le_antisymm,
-  Result,
-  MatchResult,
-}
+use Rattle.std.proofs.Common.{◌≡◌, ◌↔◌, ℕ, ◌<◌, ◌≤◌, Bool, true, false, ◌&&◌, ◌||◌, nat_lt, List, [], ◌∷◌, ◌++◌, length, take, drop, length-append, map, refl, sym, ap, ◌∙◌, arith, Option, Some, None, IfSome, is_some, option_to_list, true≢false, append_assoc, le_antisymm, Result, MatchResult}
 use Rattle.std.specs.List.{AllByRecursion, list_all}
 use Rattle.std.proofs.lemmas.Bool.{cond_both, false_from_ne_true, eqb-true}
 use Rattle.std.proofs.lemmas.List.{map-append, take-append-le, take-append-drop}
@@ -49,58 +12,13 @@ use Rattle.iloc_spec_grammar.specs.Reading.{IdentifierFront, EndsBefore, starts_
 use Rattle.iloc_spec_grammar.proofs.WordsLaws.{length-language, region_no_script, length-transform_key}
 use Rattle.iloc_spec_grammar.proofs.ValuesLaws.{all_weaker, all_both}
 use Rattle.iloc_spec_grammar.proofs.IdentifierLaws.{pieces-identifier_of, one_identifier}
-use Rattle.iloc_spec_grammar.proofs.Readings.{
-  IsLong,
-  IsNoKey,
-  after_language,
-  long_after_language,
-  long_extension,
-  identifier_no_key,
-  language_no_key,
-  fields_pass,
-  fields_read,
-}
+use Rattle.iloc_spec_grammar.proofs.Readings.{IsLong, IsNoKey, after_language, long_after_language, long_extension, identifier_no_key, language_no_key, fields_pass, fields_read}
 use Rattle.iloc_spec_grammar.proofs.ReadingLaws.{front_is_front, front-from_block, from_block_starts}
-use Rattle.iloc_spec_grammar.proofs.FaultLaws.{
-  some_repeat,
-  front_variants,
-  after_variants,
-  front_are_variants,
-  front_longest,
-  read_longer,
-  cut_identifier,
-  repeats_longer,
-  language_of,
-  script_of,
-  region_of,
-  spell_cut,
-}
+use Rattle.iloc_spec_grammar.proofs.FaultLaws.{some_repeat, front_variants, after_variants, front_are_variants, front_longest, read_longer, cut_identifier, repeats_longer, language_of, script_of, region_of, spell_cut}
 use Rattle.iloc_spec_grammar.specs.Computing.{all_different, is_field}
-use Rattle.iloc_spec_grammar.proofs.RuleTests.{
-  Tests,
-  tests_not,
-  tests_and,
-  tests_all,
-  tests_field,
-  tests_needed,
-  tests_different,
-}
+use Rattle.iloc_spec_grammar.proofs.RuleTests.{Tests, tests_not, tests_and, tests_all, tests_field, tests_needed, tests_different}
 use Rattle.iloc_spec_parts.specs.Readers.{IsReader, AgreesWithBlocks}
-use Rattle.iloc_spec_parts.specs.Fronts.{
-  FrontRead,
-  absent,
-  present,
-  is_field_piece,
-  fields_front,
-  after_fields,
-  TransformRead,
-  TransformFault,
-  repeats,
-  unread,
-  fields_at,
-  fields_result,
-  transform_result,
-}
+use Rattle.iloc_spec_parts.specs.Fronts.{FrontRead, absent, present, is_field_piece, fields_front, after_fields, TransformRead, TransformFault, repeats, unread, fields_at, fields_result, transform_result}
 use Rattle.iloc_spec_parts.proofs.FieldLaws.{all_from_pieces, front_of_fields, fields_stop, pieces_pass}
 use Rattle.iloc_spec_parts.proofs.FrontLaws.{not_attribute}
 use Rattle.iloc_spec_parts.proofs.ReaderLaws.{reader_of, agreeing, until_block, Answers}

@@ -1,18 +1,7 @@
 -- The text of a value is read as it.
 use Rattle.std.proofs.Common.{◌≡◌, ◌≢◌, false, cond, List, [], ◌∷◌, refl, ap, ◌∙◌, Ok, Err}
 use Rattle.std.specs.List.{AllByRecursion, list_all}
-use Rattle.iloc_spec_grammar.specs.Syntax.{
-  Text,
-  pieces,
-  join,
-  Kind,
-  Subtag,
-  Attribute,
-  is_word,
-  IsWord,
-  lower,
-  is_true,
-}
+use Rattle.iloc_spec_grammar.specs.Syntax.{Text, pieces, join, Kind, Subtag, Attribute, is_word, IsWord, lower, is_true}
 use Rattle.iloc_spec_grammar.specs.Meaning.{normal_values, InvalidSubtag, InvalidExtension}
 use Rattle.iloc_spec_grammar.specs.Values.{IsNormal, spelled_value}
 use Rattle.iloc_spec_grammar.proofs.PiecesLaws.{pieces-join}

@@ -1,6 +1,5 @@
 -- Over a wider table small texts stay what they are.
-use Rattle.std.proofs.Common.{arith}
-use Rattle.std.proofs.Common.{◌≡◌, ℕ, Bool, true}
+use Rattle.std.proofs.Common.{arith, ◌≡◌, ℕ, Bool, true}
 use Rattle.std.proofs.lemmas.Option.{IfSome_then}
 use Rattle.iloc_spec_grammar.specs.Syntax.{Text}
 use Rattle.iloc_spec_grammar.proofs.WiderTables as tables

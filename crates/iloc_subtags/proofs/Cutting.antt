@@ -1,6 +1,5 @@
 -- The first piece of a text, by its length.
-use Rattle.std.proofs.Common.{◌≡◌, ◌≢◌, ◌<◌, ◌==◌, ◌∙◌, arith, suc, cond, [], ◌∷◌, ◌++◌, length}
-use Rattle.std.proofs.Common.{take, drop, true, false, All, sym, ap, refl}
+use Rattle.std.proofs.Common.{◌≡◌, ◌≢◌, ◌<◌, ◌==◌, ◌∙◌, arith, suc, cond, [], ◌∷◌, ◌++◌, length, take, drop, true, false, All, sym, ap, refl}
 use Rattle.std.proofs.lemmas.Bool.{false_from_ne_true}
 use Rattle.std.proofs.lemmas.Bool.Decides.{nat_tests}
 use Rattle.iloc_spec_grammar.specs.Syntax.{Text, pieces}

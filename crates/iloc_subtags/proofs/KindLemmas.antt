@@ -1,6 +1,5 @@
 -- Words of two kinds, by their bytes.
-use Rattle.std.proofs.Common.{◌≡◌, ℕ, ◌+◌, ◌*◌, ◌<◌, true, eqb, get_or, [], ◌∷◌, length, map}
-use Rattle.std.proofs.Common.{refl, sym, ◌∙◌, ap, ap₂, arith, ◌&&◌, ◌⊎◌, inl, inr}
+use Rattle.std.proofs.Common.{◌≡◌, ℕ, ◌+◌, ◌*◌, ◌<◌, true, eqb, get_or, [], ◌∷◌, length, map, refl, sym, ◌∙◌, ap, ap₂, arith, ◌&&◌, ◌⊎◌, inl, inr}
 use Rattle.std.proofs.lemmas.Bool.Decides.{nat_tests}
 use Rattle.std.specs.Int.Bits.{or_zero_r}
 use Rattle.std.specs.Char.{is_ascii_alphabetic, is_ascii_alphanumeric, to_ascii_lowercase, to_ascii_uppercase}
@@ -10,9 +9,7 @@ use Rattle.iloc_tinystr.specs.TinyText.{is_text_byte, is_tiny_text}
 use Rattle.iloc_tinystr.proofs.Cases.{first_lower}
 use Rattle.iloc_tinystr.proofs.TinyTextLemmas.{length-le-tiny}
 use Rattle.iloc_subtags.specs.KindLaws.{region_fits}
-use Rattle.iloc_spec_grammar.specs.Syntax.{Text, Kind, Script, Region}
-use Rattle.iloc_spec_grammar.specs.Syntax.{CurrencyType, is_word, normal, lower, upper, title}
-use Rattle.iloc_spec_grammar.specs.Syntax.{greatest, raw}
+use Rattle.iloc_spec_grammar.specs.Syntax.{Text, Kind, Script, Region, CurrencyType, is_word, normal, lower, upper, title, greatest, raw}
 use Rattle.iloc_spec_grammar.specs.Values.{IsNormal}
 
 no_longer : (w : Text) (n : ℕ) → is_tiny_text n w ≡ true → n < length w → ⊥

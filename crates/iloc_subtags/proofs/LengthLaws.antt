@@ -2,9 +2,7 @@
 use Rattle.std.specs.Prelude.{◌≡◌, true, length}
 use Rattle.std.proofs.Common.{arith}
 use Rattle.std.proofs.lemmas.Bool.Decides.{nat_tests}
-use Rattle.iloc_spec_grammar.specs.Syntax.{Text, Kind, Language, Script, Region, Variant, Subtag, UnicodeKey}
-use Rattle.iloc_spec_grammar.specs.Syntax.{TransformKey, Attribute, PrivateSubtag, SubdivisionSuffix}
-use Rattle.iloc_spec_grammar.specs.Syntax.{CurrencyType, is_word, IsWord}
+use Rattle.iloc_spec_grammar.specs.Syntax.{Text, Kind, Language, Script, Region, Variant, Subtag, UnicodeKey, TransformKey, Attribute, PrivateSubtag, SubdivisionSuffix, CurrencyType, is_word, IsWord}
 use Rattle.iloc_subtags.specs.Lengths.{has_length}
 
 pub word_has_length : (k : Kind) (p : Text) → IsWord k p → has_length k (length p) ≡ true

@@ -2,9 +2,7 @@
 use Rattle.std.proofs.Common.{◌≡◌, ℕ, ◌<◌, ◌≤◌, Bool, true, false, length, refl, ◌∙◌, arith}
 use Rattle.iloc_tinystr.specs.TinyText.{is_tiny_text}
 use Rattle.iloc_tinystr.proofs.TinyTextLemmas.{length-le-tiny}
-use Rattle.iloc_spec_grammar.specs.Syntax.{Text, Kind, Language, Script, Region, Variant, Subtag, UnicodeKey}
-use Rattle.iloc_spec_grammar.specs.Syntax.{TransformKey, Attribute, PrivateSubtag, SubdivisionSuffix}
-use Rattle.iloc_spec_grammar.specs.Syntax.{CurrencyType, is_word, IsWord, normal, greatest}
+use Rattle.iloc_spec_grammar.specs.Syntax.{Text, Kind, Language, Script, Region, Variant, Subtag, UnicodeKey, TransformKey, Attribute, PrivateSubtag, SubdivisionSuffix, CurrencyType, is_word, IsWord, normal, greatest}
 use Rattle.iloc_spec_grammar.proofs.WordsLaws.{is_word-normal}
 
 -- no kind has words of more than eight bytes

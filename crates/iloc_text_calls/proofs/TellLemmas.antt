@@ -9,29 +9,14 @@ use Rattle.iloc_spec_grammar.proofs.IdentifierTexts.{identifier_means_value}
 use Rattle.iloc_spec_grammar.proofs.RawLaws.{languages_table}
 use Rattle.iloc_spec_grammar.proofs.SameText.{well_formed_is}
 use Rattle.iloc_spec_parts.specs.DataLocales.{locale_of_data}
-use Rattle.iloc_spec_parts.proofs.DataLaws.{
-  locale_of_data_is_value,
-  locale_of_data_is_well_formed,
-  read_is_data_locale,
-  text_of_data,
-}
+use Rattle.iloc_spec_parts.proofs.DataLaws.{locale_of_data_is_value, locale_of_data_is_well_formed, read_is_data_locale, text_of_data}
 use Rattle.iloc_normalize.specs.Modes.{IsNormalText, IsFaulty}
 use Rattle.iloc_normalize.specs.declared.Mode.{Mode}
 use Rattle.iloc_normalize.specs.declared.Mode.TheVariants.{Langid, Locale, Data}
 use Rattle.iloc_normalize.proofs.PlainAnswers.{text_alone, plain_normal}
 use Rattle.iloc_calls.specs.Answers.{MeansLocale, Tells}
 use Rattle.iloc_calls.specs.declared.status.Status.{Status}
-use Rattle.iloc_calls.specs.declared.status.Status.TheVariants.{
-  Done,
-  BufferTooSmall,
-  NotFound,
-  OutOfMemory,
-  InvalidLanguage,
-  InvalidSubtag,
-  InvalidExtension,
-  DuplicatedExtension,
-  UnknownNumber,
-}
+use Rattle.iloc_calls.specs.declared.status.Status.TheVariants.{Done, BufferTooSmall, NotFound, OutOfMemory, InvalidLanguage, InvalidSubtag, InvalidExtension, DuplicatedExtension, UnknownNumber}
 use Rattle.iloc_text_parts.specs.declared.Part.{Part}
 use Rattle.iloc_text_parts.specs.Parts.{IsPart}
 use Rattle.std.specs.Prelude.{⊤, Err}

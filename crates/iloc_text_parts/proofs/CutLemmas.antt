@@ -1,85 +1,20 @@
 -- Where the parts of a locale stand in its normal text.
-use Rattle.std.proofs.Common.{
-  ◌≡◌,
-  ℕ,
-  ◌-◌,
-  ◌≤◌,
-  Bool,
-  true,
-  false,
-  List,
-  [],
-  ◌∷◌,
-  ◌++◌,
-  length,
-  take,
-  suc,
-  flat_map,
-  refl,
-  sym,
-  ap,
-  ◌∙◌,
-  subst,
-  arith,
-  append_assoc,
-  unwrap_or,
-  Option,
-  Some,
-  None,
-  IfSome,
-  option_to_list,
-}
+use Rattle.std.proofs.Common.{◌≡◌, ℕ, ◌-◌, ◌≤◌, Bool, true, false, List, [], ◌∷◌, ◌++◌, length, take, suc, flat_map, refl, sym, ap, ◌∙◌, subst, arith, append_assoc, unwrap_or, Option, Some, None, IfSome, option_to_list}
 use Rattle.std.specs.Char.{to_ascii_lowercase, is_ascii_alphanumeric}
 use Rattle.std.specs.List.{AllByRecursion}
 use Rattle.std.proofs.lemmas.Bool.{false_from_ne_true}
 use Rattle.std.proofs.lemmas.Bool.Decides.{nat_tests}
-use Rattle.iloc_spec_grammar.specs.Syntax.{
-  Text,
-  Block,
-  IsHyphenFree,
-  IsWord,
-  Kind,
-  Region,
-  Script,
-  Variant,
-  dashes,
-  first_piece,
-  identifier_pieces,
-  is_word,
-  languages,
-  pieces,
-}
+use Rattle.iloc_spec_grammar.specs.Syntax.{Text, Block, IsHyphenFree, IsWord, Kind, Region, Script, Variant, dashes, first_piece, identifier_pieces, is_word, languages, pieces}
 use Rattle.iloc_spec_grammar.specs.Meaning.{Locale, Extensions}
 use Rattle.iloc_spec_grammar.specs.Reading.{passing, past, rest_of, skip_first, take_first}
 use Rattle.iloc_spec_grammar.specs.Tree.{before_t, after_t}
-use Rattle.iloc_spec_grammar.specs.Values.{
-  AreWellFormed,
-  IsNormal,
-  IsValue,
-  IsWellFormed,
-  text,
-  identifier_text,
-  extensions_spelling,
-  other_spelling,
-  printed_pieces,
-  private_spelling,
-  transform_spelling,
-  unicode_spelling,
-  transform_block,
-}
+use Rattle.iloc_spec_grammar.specs.Values.{AreWellFormed, IsNormal, IsValue, IsWellFormed, text, identifier_text, extensions_spelling, other_spelling, printed_pieces, private_spelling, transform_spelling, unicode_spelling, transform_block}
 use Rattle.iloc_spec_grammar.proofs.Corollaries.{means_a_value, means_tests}
 use Rattle.iloc_spec_grammar.proofs.PartTexts.{spelling_of_parts, text_of_parts}
 use Rattle.iloc_spec_grammar.proofs.PiecesLaws.{pieces-join}
 use Rattle.iloc_spec_grammar.proofs.ReadBack.{word_hyphen_free, printed_each}
 use Rattle.iloc_spec_grammar.proofs.SameText.{pieces_are}
-use Rattle.iloc_spec_grammar.proofs.WordsLaws.{
-  length-script,
-  length-region,
-  length-variant,
-  region_no_script,
-  variant_no_region,
-  variant_no_script,
-}
+use Rattle.iloc_spec_grammar.proofs.WordsLaws.{length-script, length-region, length-variant, region_no_script, variant_no_region, variant_no_script}
 use Rattle.iloc_text_parts.specs.Tails.{is_longer}
 use Rattle.iloc_text_parts.proofs.TailLemmas.{before_tail}
 

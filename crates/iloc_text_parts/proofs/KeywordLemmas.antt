@@ -1,96 +1,29 @@
 -- The value of a keyword, found among the pieces of a normal text.
-use Rattle.std.proofs.Common.{◌≡◌, ◌≢◌, ℕ, ◌≤◌, ◌==◌, Bool, true, false, cond, List, [], ◌∷◌, ◌++◌, length, map}
-use Rattle.std.proofs.Common.{drop, flat_map, refl, sym, ap, ◌∙◌, subst, arith, append_assoc, codes}
-use Rattle.std.proofs.Common.{Option, Some, None, IfSome, option_map, option_and_then, option_to_list, Ok, Err}
+use Rattle.std.proofs.Common.{◌≡◌, ◌≢◌, ℕ, ◌≤◌, ◌==◌, Bool, true, false, cond, List, [], ◌∷◌, ◌++◌, length, map, drop, flat_map, refl, sym, ap, ◌∙◌, subst, arith, append_assoc, codes, Option, Some, None, IfSome, option_map, option_and_then, option_to_list, Ok, Err}
 use Rattle.std.specs.FinMap.{find}
 use Rattle.std.specs.List.{AllByRecursion}
 use Rattle.std.specs.Str.{bytes_eq}
 use Rattle.std.proofs.lemmas.Bool.{false_from_ne_true}
 use Rattle.std.proofs.lemmas.Bool.Decides.{nat_tests}
 use Rattle.std.proofs.lemmas.Slice.Eq.{bytes_eq-Decides}
-use Rattle.iloc_spec_grammar.specs.Syntax.{
-  Text,
-  Block,
-  Fields,
-  Field,
-  Identifier,
-  Transform,
-  Attribute,
-  IsWord,
-  Subtag,
-  TransformKey,
-  UnicodeKey,
-  Variant,
-  Script,
-  Region,
-  dashes,
-  fields_pieces,
-  identifier_pieces,
-  is_other_singleton,
-  is_same,
-  is_word,
-  join,
-  languages,
-  lower,
-  normal,
-  optional_pieces,
-  read,
-  unicode_pieces,
-  word,
-  word_cmp,
-  is_true,
-  IsHyphenFree,
-}
+use Rattle.iloc_spec_grammar.specs.Syntax.{Text, Block, Fields, Field, Identifier, Transform, Attribute, IsWord, Subtag, TransformKey, UnicodeKey, Variant, Script, Region, dashes, fields_pieces, identifier_pieces, is_other_singleton, is_same, is_word, join, languages, lower, normal, optional_pieces, read, unicode_pieces, word, word_cmp, is_true, IsHyphenFree}
 use Rattle.std.specs.Char.{to_ascii_lowercase}
 use Rattle.std.specs.Prelude.{nat_le}
 use Rattle.iloc_spec_grammar.specs.Meaning.{Locale}
 use Rattle.iloc_spec_grammar.specs.Reading.{passing}
 use Rattle.iloc_spec_grammar.specs.Tree.{before_t, after_t}
-use Rattle.iloc_spec_grammar.specs.Values.{
-  IsIdentifierValue,
-  IsNormal,
-  IsTransformValue,
-  IsWellFormed,
-  extensions_spelling,
-  other_spelling,
-  printed_pieces,
-  private_spelling,
-  spelled_fields,
-  spelled_value,
-  transform_spelling,
-  unicode_spelling,
-}
+use Rattle.iloc_spec_grammar.specs.Values.{IsIdentifierValue, IsNormal, IsTransformValue, IsWellFormed, extensions_spelling, other_spelling, printed_pieces, private_spelling, spelled_fields, spelled_value, transform_spelling, unicode_spelling}
 use Rattle.iloc_spec_grammar.proofs.General.{all_mapped}
 use Rattle.iloc_spec_grammar.proofs.MapLaws.{same_is, same_itself}
 use Rattle.iloc_spec_grammar.proofs.PartTexts.{spelling_of_parts, join-dashes}
 use Rattle.iloc_spec_grammar.proofs.RawLaws.{languages_table}
 use Rattle.iloc_spec_grammar.proofs.ReadBack.{all_append}
 use Rattle.iloc_spec_grammar.proofs.ValuesLaws.{all_both, all_weaker, spelled_rule}
-use Rattle.iloc_spec_grammar.proofs.WordsLaws.{
-  length-attribute,
-  length-language,
-  length-lower,
-  length-region,
-  length-script,
-  length-transform_key,
-  length-unicode_key,
-  length-variant,
-  length-normal,
-}
+use Rattle.iloc_spec_grammar.proofs.WordsLaws.{length-attribute, length-language, length-lower, length-region, length-script, length-transform_key, length-unicode_key, length-variant, length-normal}
 use Rattle.iloc_text_parts.specs.Cuts.{after_key, after_u}
 use Rattle.iloc_text_parts.specs.Parts.{keyword_text}
 use Rattle.iloc_text_parts.specs.Tails.{is_longer, tail_pieces}
-use Rattle.iloc_text_parts.proofs.CutLemmas.{
-  Begins,
-  Stops,
-  begins_behind,
-  hyphen_free,
-  is_longer_than,
-  is_tested,
-  is_value,
-  not_longer,
-  split_passing,
-}
+use Rattle.iloc_text_parts.proofs.CutLemmas.{Begins, Stops, begins_behind, hyphen_free, is_longer_than, is_tested, is_value, not_longer, split_passing}
 use Rattle.iloc_text_parts.proofs.TailLemmas.{tail_pieces-dashes}
 
 -- pieces that are passed over on the way to `u`

@@ -1,47 +1,10 @@
 -- The text of a locale's parent, by its normal text.
-use Rattle.std.proofs.Common.{
-  ◌≡◌,
-  ◌≢◌,
-  ◌-◌,
-  Bool,
-  true,
-  false,
-  List,
-  [],
-  ◌∷◌,
-  ◌++◌,
-  length,
-  take,
-  refl,
-  sym,
-  ap,
-  ◌∙◌,
-  subst,
-  append-nil,
-  codes,
-  inl,
-  inr,
-  arith,
-  ◌==◌,
-  Option,
-  Some,
-  None,
-  option_map,
-  option_to_list,
-}
+use Rattle.std.proofs.Common.{◌≡◌, ◌≢◌, ◌-◌, Bool, true, false, List, [], ◌∷◌, ◌++◌, length, take, refl, sym, ap, ◌∙◌, subst, append-nil, codes, inl, inr, arith, ◌==◌, Option, Some, None, option_map, option_to_list}
 use Rattle.std.proofs.lemmas.Bool.Decides.{nat_tests}
 use Rattle.std.specs.Str.{bytes_eq}
 use Rattle.std.proofs.lemmas.Bool.{false_from_ne_true}
 use Rattle.std.proofs.lemmas.Slice.Eq.{bytes_eq-Decides}
-use Rattle.iloc_spec_grammar.specs.Syntax.{
-  Text,
-  Identifier,
-  dashes,
-  identifier_pieces,
-  join,
-  languages,
-  pieces,
-}
+use Rattle.iloc_spec_grammar.specs.Syntax.{Text, Identifier, dashes, identifier_pieces, join, languages, pieces}
 use Rattle.iloc_spec_grammar.specs.Meaning.{Locale, no_extensions, without_extensions}
 use Rattle.iloc_spec_grammar.specs.Reading.{rest_of}
 use Rattle.iloc_spec_grammar.specs.Values.{IsValue, IsWellFormed, extensions_spelling, identifier_text, text}

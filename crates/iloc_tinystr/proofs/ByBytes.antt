@@ -1,6 +1,5 @@
 -- What operations on a number do to each of its bytes.
-use Rattle.std.proofs.Common.{◌≡◌, ℕ, zero, suc, ◌+◌, ◌*◌, ◌/◌, ◌%◌, ◌^◌, ◌<◌, Bool, true, ◌&&◌, eqb, ltb}
-use Rattle.std.proofs.Common.{get_or, List, [], ◌∷◌, length, map, refl, ◌∙◌, ap, arith, pow-suc}
+use Rattle.std.proofs.Common.{◌≡◌, ℕ, zero, suc, ◌+◌, ◌*◌, ◌/◌, ◌%◌, ◌^◌, ◌<◌, Bool, true, ◌&&◌, eqb, ltb, get_or, List, [], ◌∷◌, length, map, refl, ◌∙◌, ap, arith, pow-suc}
 use Rattle.std.proofs.lemmas.List.{map-id}
 use borrow.Author.Tests.{eqb-true, ltb-true}
 use Rattle.std.specs.Cmp.{first_so, second_so}

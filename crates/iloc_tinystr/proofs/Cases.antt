@@ -1,20 +1,16 @@
 -- A letter is put into case by its bit 5.
-use Rattle.std.proofs.Common.{◌≡◌, ℕ, zero, suc, ◌+◌, ◌*◌, ◌/◌, ◌%◌, ◌^◌, ◌<◌, ◌≤◌, Bool, true, false, cond}
-use Rattle.std.proofs.Common.{get_or, map, refl, sym, ◌∙◌, ap, arith, pow-suc}
+use Rattle.std.proofs.Common.{◌≡◌, ℕ, zero, suc, ◌+◌, ◌*◌, ◌/◌, ◌%◌, ◌^◌, ◌<◌, ◌≤◌, Bool, true, false, cond, get_or, map, refl, sym, ◌∙◌, ap, arith, pow-suc}
 use Rattle.std.specs.Int.{is_in_range}
 use Rattle.std.specs.Int.RustNames.{bit_and, bit_or, bit_xor}
 use Rattle.std.proofs.lemmas.List.{length-map, map-id}
 use Rattle.std.proofs.lemmas.Nat.{and_le_r, xor_comm}
-use Rattle.std.specs.Char.{is_ascii_alphabetic, is_ascii_alphanumeric, to_ascii_lowercase}
-use Rattle.std.specs.Char.{to_ascii_uppercase}
+use Rattle.std.specs.Char.{is_ascii_alphabetic, is_ascii_alphanumeric, to_ascii_lowercase, to_ascii_uppercase}
 use Rattle.std.specs.List.{list_all}
 use Rattle.std.specs.Cmp.{first_so, second_so}
 use Rattle.std.proofs.lemmas.Bool.Decides.{nat_tests}
 use Rattle.iloc_tinystr.specs.Number.{number, bytes, flag, flags, spread, IsPacked}
 use Rattle.iloc_tinystr.proofs.Titles.{title, length-title}
-use Rattle.iloc_tinystr.proofs.ByBytes.{number-bytes, length_bytes, kept, alike, same_bytes, Keeps}
-use Rattle.iloc_tinystr.proofs.ByBytes.{Bytewise, itself, alike_made, ands, ors, xors, first_byte, by_byte}
-use Rattle.iloc_tinystr.proofs.ByBytes.{of_both}
+use Rattle.iloc_tinystr.proofs.ByBytes.{number-bytes, length_bytes, kept, alike, same_bytes, Keeps, Bytewise, itself, alike_made, ands, ors, xors, first_byte, by_byte, of_both}
 use Rattle.iloc_tinystr.proofs.Low.{flag-keeps, turned_flags}
 use Rattle.iloc_tinystr.proofs.Packed.{below, word-lt, wider, Makes, makes, changed, fit-map}
 

@@ -1,6 +1,5 @@
 -- Each byte is flagged that is a letter or a digit, and all are where the test holds of each.
-use Rattle.std.proofs.Common.{◌≡◌, ℕ, zero, suc, ◌+◌, ◌-◌, ◌*◌, ◌/◌, ◌^◌, ◌<◌, ◌≤◌, Bool, true, false}
-use Rattle.std.proofs.Common.{◌&&◌, cond, eqb, map, refl, ◌∙◌, ap, arith}
+use Rattle.std.proofs.Common.{◌≡◌, ℕ, zero, suc, ◌+◌, ◌-◌, ◌*◌, ◌/◌, ◌^◌, ◌<◌, ◌≤◌, Bool, true, false, ◌&&◌, cond, eqb, map, refl, ◌∙◌, ap, arith}
 use borrow.Author.Tests.{eqb-true}
 use Rattle.std.specs.Int.RustNames.{bit_and, bit_xor}
 use Rattle.std.specs.List.{list_all}
@@ -8,8 +7,7 @@ use Rattle.std.specs.Char.{is_ascii_alphabetic, is_ascii_digit}
 use Rattle.std.specs.Int.{is_in_range}
 use Rattle.iloc_tinystr.specs.TinyText.{is_text_byte}
 use Rattle.iloc_tinystr.specs.Number.{number, bytes, flag, flags, spread, IsPacked}
-use Rattle.iloc_tinystr.proofs.ByBytes.{each_below, tried, alike, same_bytes, itself, constant, ands}
-use Rattle.iloc_tinystr.proofs.ByBytes.{xors, by_byte, of_both}
+use Rattle.iloc_tinystr.proofs.ByBytes.{each_below, tried, alike, same_bytes, itself, constant, ands, xors, by_byte, of_both}
 use Rattle.iloc_tinystr.proofs.Low.{masked, flags_of}
 use Rattle.iloc_tinystr.proofs.Packed.{below, wider}
 

@@ -1,6 +1,5 @@
 -- Two pieces, one after the other.
-use Rattle.std.proofs.Common.{◌≡◌, ℕ, zero, suc, ◌+◌, ◌*◌, ◌%◌, ◌^◌, ◌<◌, ◌≤◌, List, [], ◌∷◌, ◌++◌, length}
-use Rattle.std.proofs.Common.{ap, arith, length-append, pow-suc}
+use Rattle.std.proofs.Common.{◌≡◌, ℕ, zero, suc, ◌+◌, ◌*◌, ◌%◌, ◌^◌, ◌<◌, ◌≤◌, List, [], ◌∷◌, ◌++◌, length, ap, arith, length-append, pow-suc}
 use Rattle.std.proofs.Math.Nat.{mul_assoc, mul_comm}
 use Rattle.iloc_tinystr.specs.Number.{number, bytes, IsPacked}
 use Rattle.iloc_tinystr.proofs.ByBytes.{bytes-number, fit-bytes}

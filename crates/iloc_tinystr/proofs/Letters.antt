@@ -1,13 +1,11 @@
 -- Whether all bytes of a number, which are below 128, are 0 or letters.
-use Rattle.std.proofs.Common.{◌≡◌, ℕ, zero, suc, ◌+◌, ◌*◌, ◌/◌, ◌%◌, ◌^◌, ◌<◌, Bool, true, false, ◌&&◌}
-use Rattle.std.proofs.Common.{not, cond, eqb, ltb, map, refl, sym, ◌∙◌, ap, arith}
+use Rattle.std.proofs.Common.{◌≡◌, ℕ, zero, suc, ◌+◌, ◌*◌, ◌/◌, ◌%◌, ◌^◌, ◌<◌, Bool, true, false, ◌&&◌, not, cond, eqb, ltb, map, refl, sym, ◌∙◌, ap, arith}
 use Rattle.std.specs.Int.RustNames.{bit_and, bit_or, bit_xor}
 use Rattle.std.specs.Char.{is_ascii_alphabetic}
 use Rattle.std.proofs.lemmas.Bool.Decides.{nat_tests}
 use Rattle.iloc_tinystr.specs.Number.{number, bytes, flag, flags, spread, IsLow}
 use Rattle.iloc_tinystr.specs.TinyText.{is_text_byte}
-use Rattle.iloc_tinystr.proofs.ByBytes.{each_below, tried, kept, number-bytes, Bytewise, itself, constant}
-use Rattle.iloc_tinystr.proofs.ByBytes.{ands, ors, xors, of_both}
+use Rattle.iloc_tinystr.proofs.ByBytes.{each_below, tried, kept, number-bytes, Bytewise, itself, constant, ands, ors, xors, of_both}
 use Rattle.iloc_tinystr.proofs.Low.{Below, first-below, rest-below, flag-keeps}
 
 -- ---- a sum, byte by byte

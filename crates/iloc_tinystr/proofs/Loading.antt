@@ -1,6 +1,5 @@
 -- The number of a piece, and the piece of a text's number.
-use Rattle.std.proofs.Common.{◌≡◌, ℕ, zero, suc, ◌+◌, ◌-◌, ◌*◌, ◌/◌, ◌%◌, ◌^◌, ◌<◌, ◌≤◌, true, get_or, List}
-use Rattle.std.proofs.Common.{[], ◌∷◌, length, refl, ◌∙◌, ap, arith, pow-suc, bit_or}
+use Rattle.std.proofs.Common.{◌≡◌, ℕ, zero, suc, ◌+◌, ◌-◌, ◌*◌, ◌/◌, ◌%◌, ◌^◌, ◌<◌, ◌≤◌, true, get_or, List, [], ◌∷◌, length, refl, ◌∙◌, ap, arith, pow-suc, bit_or}
 use Rattle.std.specs.Int.Count.{count_leading_zeros}
 use Rattle.std.specs.Int.Bits.{or_self, or_zero_l, or_zero_r}
 use Rattle.std.proofs.lemmas.Nat.{leading_length, pow-add, pow_pos, or_block}

@@ -1,7 +1,5 @@
 -- Numbers of bytes below 128, of which a sum carries nothing from byte to byte.
-use Rattle.std.proofs.Common.{◌≡◌, ℕ, zero, suc, ◌+◌, ◌-◌, ◌*◌, ◌/◌, ◌%◌, ◌^◌, ◌<◌, ◌≤◌, Bool, true}
-use Rattle.std.proofs.Common.{◌&&◌, not, cond, eqb, ltb, nat_le, get_or, List, [], ◌∷◌, length, map, refl}
-use Rattle.std.proofs.Common.{sym, ◌∙◌, ap, subst, arith}
+use Rattle.std.proofs.Common.{◌≡◌, ℕ, zero, suc, ◌+◌, ◌-◌, ◌*◌, ◌/◌, ◌%◌, ◌^◌, ◌<◌, ◌≤◌, Bool, true, ◌&&◌, not, cond, eqb, ltb, nat_le, get_or, List, [], ◌∷◌, length, map, refl, sym, ◌∙◌, ap, subst, arith}
 use borrow.Author.Tests.{ltb-true}
 use Rattle.std.proofs.lemmas.Bool.Decides.{nat_tests}
 use Rattle.std.proofs.lemmas.List.{length-map}
@@ -11,9 +9,7 @@ use Rattle.std.specs.Int.{is_in_range}
 use Rattle.std.specs.Int.RustNames.{bit_and, bit_or, bit_xor}
 use Rattle.iloc_tinystr.specs.Number.{number, bytes, flag, flags, spread, IsLow}
 use Rattle.iloc_tinystr.specs.TinyText.{is_text_byte}
-use Rattle.iloc_tinystr.proofs.ByBytes.{each_below, tried, alike, same_bytes, number-bytes, length_bytes}
-use Rattle.iloc_tinystr.proofs.ByBytes.{fit-bytes, bytes-number, Bytewise, itself, constant, alike_made}
-use Rattle.iloc_tinystr.proofs.ByBytes.{ands, ors, xors, first_byte, by_byte, of_both}
+use Rattle.iloc_tinystr.proofs.ByBytes.{each_below, tried, alike, same_bytes, number-bytes, length_bytes, fit-bytes, bytes-number, Bytewise, itself, constant, alike_made, ands, ors, xors, first_byte, by_byte, of_both}
 use Rattle.iloc_tinystr.proofs.Packed.{fit-map}
 
 -- each byte is below c

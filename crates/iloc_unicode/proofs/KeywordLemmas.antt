@@ -1,8 +1,5 @@
 -- Keywords that are taken one at a time.
-use Rattle.std.proofs.Common.{◌≡◌, ℕ, suc, ◌<◌, ◌≤◌, Bool, true, false, not, cond, ◌&&◌, ◌||◌, List, [], ◌∷◌}
-use Rattle.std.proofs.Common.{◌++◌, length, map, refl, sym, ap, ap₂, ◌∙◌, arith, true≢false, subst}
-use Rattle.std.proofs.Common.{◌+◌, append-nil, append_assoc, length-append, Option, Some, None, option_map, is_some, nat_lt}
-use Rattle.std.proofs.Common.{get_or}
+use Rattle.std.proofs.Common.{◌≡◌, ℕ, suc, ◌<◌, ◌≤◌, Bool, true, false, not, cond, ◌&&◌, ◌||◌, List, [], ◌∷◌, ◌++◌, length, map, refl, sym, ap, ap₂, ◌∙◌, arith, true≢false, subst, ◌+◌, append-nil, append_assoc, length-append, Option, Some, None, option_map, is_some, nat_lt, get_or}
 use Rattle.std.specs.List.{AllByRecursion, list_any}
 use Rattle.std.specs.Ordering.{eq_by_cmp}
 use Rattle.std.specs.Cmp.{eq_by_cmp_equiv}
@@ -12,22 +9,15 @@ use Rattle.std.specs.FinMap.Entries.{by_order}
 use Rattle.std.specs.declared.cmp.Ordering.TheVariants.{Less, Equal, Greater}
 use Rattle.std.proofs.lemmas.Bool.Decides.{nat_tests}
 use Rattle.std.proofs.lemmas.List.{map-append}
-use Rattle.iloc_spec_grammar.specs.Syntax.{Text, UnicodeKey, Attribute, is_word, IsWord, lower}
-use Rattle.iloc_spec_grammar.specs.Syntax.{word_cmp, is_true}
-use Rattle.iloc_spec_grammar.specs.Syntax.{Fields}
-use Rattle.iloc_spec_grammar.specs.Meaning.{map_of, normal_values, normal_fields, InvalidExtension}
-use Rattle.iloc_spec_grammar.specs.Meaning.{first_piece}
-use Rattle.iloc_spec_grammar.specs.Reading.{take_first, skip_first, passing, past, is_two, before_key}
-use Rattle.iloc_spec_grammar.specs.Reading.{fields_from}
-use Rattle.iloc_spec_grammar.proofs.MapLaws.{word_cmp_total, same_words, map_of_sorted}
-use Rattle.iloc_spec_grammar.proofs.MapLaws.{find-map_of, map_of_same}
+use Rattle.iloc_spec_grammar.specs.Syntax.{Text, UnicodeKey, Attribute, is_word, IsWord, lower, word_cmp, is_true, Fields}
+use Rattle.iloc_spec_grammar.specs.Meaning.{map_of, normal_values, normal_fields, InvalidExtension, first_piece}
+use Rattle.iloc_spec_grammar.specs.Reading.{take_first, skip_first, passing, past, is_two, before_key, fields_from}
+use Rattle.iloc_spec_grammar.proofs.MapLaws.{word_cmp_total, same_words, map_of_sorted, find-map_of, map_of_same}
 use Rattle.iloc_spec_grammar.proofs.SetLaws.{find-append}
-use Rattle.iloc_spec_parts.specs.Fronts.{is_keyword_piece, keywords_front, after_keywords, is_bad_key}
-use Rattle.iloc_spec_parts.specs.Fronts.{KeywordsRead, KeywordsFault, bad_key, before_bad_key, keywords_kept}
+use Rattle.iloc_spec_parts.specs.Fronts.{is_keyword_piece, keywords_front, after_keywords, is_bad_key, KeywordsRead, KeywordsFault, bad_key, before_bad_key, keywords_kept}
 use Rattle.iloc_spec_parts.proofs.KeptLaws.{HasKey, kept_append}
 use Rattle.iloc_spec_grammar.proofs.ReadBack.{all_append}
-use Rattle.iloc_spec_parts.proofs.FrontLaws.{good_value, good_key, value_goes_on}
-use Rattle.iloc_spec_parts.proofs.FrontLaws.{keywords_read_of}
+use Rattle.iloc_spec_parts.proofs.FrontLaws.{good_value, good_key, value_goes_on, keywords_read_of}
 use Rattle.iloc_litemap.proofs.Maps.{tied, map_of_more}
 use Rattle.iloc_unicode.specs.Reads.{has_many_values, KeywordsWantMemory, second_key, fifth_value}
 use Rattle.iloc_subtags.specs.Lengths.{has_length}

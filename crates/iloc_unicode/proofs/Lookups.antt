@@ -1,7 +1,5 @@
 -- A key looked for among pairs, by the test of equal texts.
-use Rattle.std.proofs.Common.{◌≡◌, ◌∙◌, ◌+◌, ◌<◌, ◌≤◌, ℕ, suc, Bool, true, false, not, cond, List, ◌∷◌, []}
-use Rattle.std.proofs.Common.{length, drop, get_or}
-use Rattle.std.proofs.Common.{refl, sym, ap, Some, None, nat_eq, add-one, drop-cons, arith}
+use Rattle.std.proofs.Common.{◌≡◌, ◌∙◌, ◌+◌, ◌<◌, ◌≤◌, ℕ, suc, Bool, true, false, not, cond, List, ◌∷◌, [], length, drop, get_or, refl, sym, ap, Some, None, nat_eq, add-one, drop-cons, arith}
 use Rattle.std.specs.FinMap.{find}
 use Rattle.std.specs.Cmp.Lexicographic.{texts_ties}
 use Rattle.iloc_spec_grammar.specs.Syntax.{Text, Fields, word_cmp}

@@ -4,8 +4,7 @@ use Rattle.std.proofs.Common.{List, sym, ap, ◌∙◌, Result}
 use Rattle.iloc_spec_grammar.specs.Syntax.{code_u, Text, pieces, Fields}
 use Rattle.iloc_spec_grammar.specs.Syntax as written
 use Rattle.iloc_spec_grammar.specs.Meaning.{Fault}
-use Rattle.iloc_spec_parts.specs.Parts.{AttributesText, KeywordsText, KeywordsTextFault, UnicodeText}
-use Rattle.iloc_spec_parts.specs.Parts.{UnicodeTextFault}
+use Rattle.iloc_spec_parts.specs.Parts.{AttributesText, KeywordsText, KeywordsTextFault, UnicodeText, UnicodeTextFault}
 use Rattle.iloc_spec_parts.proofs.FrontLaws.{keywords_reader}
 use Rattle.iloc_spec_parts.proofs.PartReaders.{unicode_part}
 use Rattle.iloc_subtags.specs.declared.parse_error.ParseError.{ParseError}

@@ -1,6 +1,5 @@
 -- How much room the parts of a text take at most.
-use Rattle.std.proofs.Common.{◌≡◌, ℕ, ◌≤◌, suc, true, false, cond, List, [], ◌∷◌, length, refl, ap, arith}
-use Rattle.std.proofs.Common.{Result, Ok, Err}
+use Rattle.std.proofs.Common.{◌≡◌, ℕ, ◌≤◌, suc, true, false, cond, List, [], ◌∷◌, length, refl, ap, arith, Result, Ok, Err}
 use Rattle.iloc_memory.specs.Refusals.{RefusedWithin}
 use Rattle.iloc_memory.proofs.Within.{within_more}
 use Rattle.iloc_spec_grammar.specs.Meaning.{first_piece}
@@ -10,9 +9,7 @@ use Rattle.iloc_spec_grammar.proofs.ReadingLaws.{length-past}
 use Rattle.iloc_spec_parts.specs.Fronts.{attributes_front, after_attributes, keywords_front, is_keyword_piece}
 use Rattle.iloc_spec_parts.proofs.KeptLaws.{passing_short}
 use Rattle.iloc_subtags.specs.declared.parse_error.ParseError.{ParseError}
-use Rattle.iloc_subtags.specs.declared.parse_error.ParseError.TheVariants.{InvalidLanguage, InvalidSubtag}
-use Rattle.iloc_subtags.specs.declared.parse_error.ParseError.TheVariants.{InvalidExtension}
-use Rattle.iloc_subtags.specs.declared.parse_error.ParseError.TheVariants.{DuplicatedExtension, OutOfMemory}
+use Rattle.iloc_subtags.specs.declared.parse_error.ParseError.TheVariants.{InvalidLanguage, InvalidSubtag, InvalidExtension, DuplicatedExtension, OutOfMemory}
 use Rattle.iloc_subtags.specs.Judging.{RunsOutOnlyIf}
 use Rattle.iloc_word_list.proofs.RoomLemmas.{pieces_fit, words_fit}
 

@@ -1,7 +1,5 @@
 -- Attributes and keywords, read one after the other, and the letter before them.
-use Rattle.std.proofs.Common.{◌≡◌, ℕ, suc, ◌+◌, ◌<◌, true, false, ◌&&◌, ◌==◌, List, [], ◌∷◌, length, map}
-use Rattle.std.proofs.Common.{◌++◌, append-nil, ap₂, refl, sym, ap, ◌∙◌, subst, arith, true≢false, Some, None}
-use Rattle.std.proofs.Common.{Result, Ok, Err}
+use Rattle.std.proofs.Common.{◌≡◌, ℕ, suc, ◌+◌, ◌<◌, true, false, ◌&&◌, ◌==◌, List, [], ◌∷◌, length, map, ◌++◌, append-nil, ap₂, refl, sym, ap, ◌∙◌, subst, arith, true≢false, Some, None, Result, Ok, Err}
 use Rattle.std.specs.Char.{to_ascii_lowercase}
 use Rattle.std.specs.FinMap.{put}
 use Rattle.std.specs.FinMap.Entries.{by_order}
@@ -9,29 +7,23 @@ use Rattle.std.specs.declared.cmp.Ordering.TheVariants.{Less, Equal, Greater}
 use Rattle.std.proofs.lemmas.Bool.{and_parts}
 use Rattle.std.proofs.lemmas.Bool.Decides.{nat_tests}
 use Rattle.std.proofs.lemmas.List.{length-map}
-use Rattle.iloc_spec_grammar.specs.Syntax.{code_u, Text, pieces, lower, word_cmp, Fields, Unicode}
-use Rattle.iloc_spec_grammar.specs.Syntax.{fields_pieces}
+use Rattle.iloc_spec_grammar.specs.Syntax.{code_u, Text, pieces, lower, word_cmp, Fields, Unicode, fields_pieces}
 use Rattle.iloc_spec_grammar.specs.Meaning.{map_of, set_of, normal_fields}
 use Rattle.iloc_spec_grammar.specs.Values.{StrictlyAscends}
 use Rattle.iloc_spec_grammar.proofs.ValuesLaws.{set_of_ascending}
 use Rattle.iloc_spec_parts.specs.Extending.{extend}
 use Rattle.iloc_spec_grammar.specs.Reading.{rest_of}
 use Rattle.iloc_spec_grammar.specs.Meaning as faults
-use Rattle.iloc_spec_parts.specs.Fronts.{attributes_front, after_attributes, attributes_read, keywords_front}
-use Rattle.iloc_spec_parts.specs.Fronts.{KeywordsRead, UnicodeRead, UnicodeFault, in_keywords, both_absent}
-use Rattle.iloc_spec_parts.specs.Parts.{begins_part, is_letter, no_singleton, after_singleton, UnicodeText}
-use Rattle.iloc_spec_parts.specs.Parts.{UnicodeTextFault}
+use Rattle.iloc_spec_parts.specs.Fronts.{attributes_front, after_attributes, attributes_read, keywords_front, KeywordsRead, UnicodeRead, UnicodeFault, in_keywords, both_absent}
+use Rattle.iloc_spec_parts.specs.Parts.{begins_part, is_letter, no_singleton, after_singleton, UnicodeText, UnicodeTextFault}
 use Rattle.iloc_subtags.specs.declared.parse_error.ParseError.{ParseError}
-use Rattle.iloc_subtags.specs.declared.parse_error.ParseError.TheVariants.{InvalidLanguage, InvalidSubtag}
-use Rattle.iloc_subtags.specs.declared.parse_error.ParseError.TheVariants.{InvalidExtension}
-use Rattle.iloc_subtags.specs.declared.parse_error.ParseError.TheVariants.{DuplicatedExtension, OutOfMemory}
+use Rattle.iloc_subtags.specs.declared.parse_error.ParseError.TheVariants.{InvalidLanguage, InvalidSubtag, InvalidExtension, DuplicatedExtension, OutOfMemory}
 use Rattle.iloc_subtags.specs.Judging.{Answers, RunsOutOnlyIf}
 use Rattle.iloc_subtags.specs.NextPiece.{byte_at}
 use Rattle.iloc_subtags.proofs.ByteLemmas.{byte_first}
 use Rattle.iloc_subtags.proofs.Judged.{without_memory, runs_out, with_memory}
 use Rattle.iloc_unicode.specs.Reads.{KeywordsFills}
-use Rattle.iloc_unicode.specs.UnicodeReads.{UnicodeReads, UnicodeWantsMemory, UnicodeFills, UnicodeTextReads}
-use Rattle.iloc_unicode.specs.UnicodeReads.{UnicodeTextWants, for_keywords}
+use Rattle.iloc_unicode.specs.UnicodeReads.{UnicodeReads, UnicodeWantsMemory, UnicodeFills, UnicodeTextReads, UnicodeTextWants, for_keywords}
 use Rattle.iloc_unicode.specs.UnicodeValue.{value_of}
 use Rattle.iloc_unicode.specs.declared.unicode.Unicode as shown
 use Rattle.iloc_spec_parts.proofs.SmallShapes.{none_mapped}

@@ -1,6 +1,5 @@
 -- Words that are collected: the lengths of their sets, and what a sort leaves.
-use Rattle.std.proofs.Common.{◌≡◌, ℕ, suc, ◌+◌, ◌<◌, ◌≤◌, Bool, true, false, cond, not, ◌||◌, List, [], ◌∷◌}
-use Rattle.std.proofs.Common.{◌++◌, length, refl, sym, ap, ◌∙◌, subst, arith, rules, true≢false, nat_eq}
+use Rattle.std.proofs.Common.{◌≡◌, ℕ, suc, ◌+◌, ◌<◌, ◌≤◌, Bool, true, false, cond, not, ◌||◌, List, [], ◌∷◌, ◌++◌, length, refl, sym, ap, ◌∙◌, subst, arith, rules, true≢false, nat_eq}
 use Rattle.std.specs.Prelude.{insert, Result, Ok, Err, IfOk, OnErr}
 use Rattle.std.specs.Cmp.Lexicographic.{pointwise}
 use Rattle.std.specs.Cmp.{Equal-is}
@@ -12,17 +11,14 @@ use Rattle.std.specs.declared.cmp.Ordering.{Ordering}
 use Rattle.std.specs.declared.cmp.Ordering.TheVariants.{Less, Equal, Greater}
 use Rattle.std.specs.FinMap.{put}
 use Rattle.std.proofs.lemmas.Bool.{and_from, or_parts, both_ways}
-use Rattle.std.proofs.lemmas.List.Sorted.{IsPermutation-refl, IsPermutation-sym, IsPermutation-cons}
-use Rattle.std.proofs.lemmas.List.Sorted.{IsPermutation-trans, IsPermutation-middle, IsPermutation-to_front}
-use Rattle.std.proofs.lemmas.List.Sorted.{list_any-IsPermutation}
+use Rattle.std.proofs.lemmas.List.Sorted.{IsPermutation-refl, IsPermutation-sym, IsPermutation-cons, IsPermutation-trans, IsPermutation-middle, IsPermutation-to_front, list_any-IsPermutation}
 use Rattle.std.proofs.lemmas.List.Edits.{insert_end}
 use Rattle.std.proofs.lemmas.List.Kept.{IsStrictlySortedBy-dedup}
 use Rattle.iloc_spec_grammar.specs.Syntax.{Text, word_cmp, is_same, AllDifferent}
 use Rattle.iloc_spec_grammar.specs.Meaning.{map_of, set_of}
 use Rattle.iloc_spec_grammar.specs.Values.{StrictlyAscends}
 use Rattle.iloc_spec_grammar.proofs.MapLaws.{word_cmp_total, same_words}
-use Rattle.iloc_spec_grammar.proofs.SetLaws.{marked, keys, same_set, set_of-set_of, length-set_of-cons}
-use Rattle.iloc_spec_grammar.proofs.SetLaws.{length-set_of}
+use Rattle.iloc_spec_grammar.proofs.SetLaws.{marked, keys, same_set, set_of-set_of, length-set_of-cons, length-set_of}
 use Rattle.iloc_spec_grammar.proofs.ValuesLaws.{set_of_ascending}
 use Rattle.iloc_spec_grammar.proofs.WellRead.{set_of-ascending}
 use Rattle.iloc_word_list.specs.Ascending.{ascends}

@@ -1,6 +1,5 @@
 -- The word of a currency is a subtag other than `true`.
-use Rattle.std.proofs.Common.{◌≡◌, ◌&&◌, List, [], ◌∷◌, length, true, false, true≢false, cond, not, refl}
-use Rattle.std.proofs.Common.{sym, ap, ap₂, subst, codes, arith}
+use Rattle.std.proofs.Common.{◌≡◌, ◌&&◌, List, [], ◌∷◌, length, true, false, true≢false, cond, not, refl, sym, ap, ap₂, subst, codes, arith}
 use Rattle.std.proofs.lemmas.Bool.{false_from_ne_true}
 use Rattle.std.proofs.lemmas.Bool.Decides.{nat_tests}
 use Rattle.std.specs.Int.{is_in_range}

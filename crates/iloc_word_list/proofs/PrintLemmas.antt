@@ -1,6 +1,5 @@
 -- Printed values.
-use Rattle.std.proofs.Common.{◌≡◌, ℕ, ap, ap₂, sym, ◌∙◌, Bool, false, IsTrue, ◌↔◌, List, [], ◌∷◌, ◌++◌}
-use Rattle.std.proofs.Common.{length, take, drop, nat_eq, eqb, refl, arith}
+use Rattle.std.proofs.Common.{◌≡◌, ℕ, ap, ap₂, sym, ◌∙◌, Bool, false, IsTrue, ◌↔◌, List, [], ◌∷◌, ◌++◌, length, take, drop, nat_eq, eqb, refl, arith}
 use borrow.Author.Tests.{eqb-true}
 use Rattle.std.proofs.Math.Seq.{drop-append_seam, take-append_seam}
 use Rattle.std.proofs.lemmas.List.{take-append-drop}

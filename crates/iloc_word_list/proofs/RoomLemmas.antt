@@ -1,6 +1,5 @@
 -- How much room is asked for at most, and what a refused request for it makes of an answer.
-use Rattle.std.proofs.Common.{◌≡◌, suc, ◌+◌, ◌*◌, ◌≤◌, Bool, true, false, cond, not, List, [], ◌∷◌}
-use Rattle.std.proofs.Common.{length, refl, sym, ap, ◌∙◌, arith, ℕ, Result, Ok, Err}
+use Rattle.std.proofs.Common.{◌≡◌, suc, ◌+◌, ◌*◌, ◌≤◌, Bool, true, false, cond, not, List, [], ◌∷◌, length, refl, sym, ap, ◌∙◌, arith, ℕ, Result, Ok, Err}
 use Rattle.iloc_spec_grammar.specs.Syntax.{Text, pieces, join, lower, Subtag, is_word, is_true}
 use Rattle.iloc_spec_grammar.specs.Meaning.{normal_values}
 use Rattle.iloc_spec_grammar.specs.Reading.{passing, rest_of}
@@ -10,9 +9,7 @@ use Rattle.iloc_spec_grammar.proofs.StepSizes.{piece_length, length-join}
 use Rattle.iloc_memory.specs.Refusals.{RefusedWithin}
 use Rattle.iloc_memory.proofs.Within.{within_more}
 use Rattle.iloc_subtags.specs.declared.parse_error.ParseError.{ParseError}
-use Rattle.iloc_subtags.specs.declared.parse_error.ParseError.TheVariants.{InvalidLanguage, InvalidSubtag}
-use Rattle.iloc_subtags.specs.declared.parse_error.ParseError.TheVariants.{InvalidExtension}
-use Rattle.iloc_subtags.specs.declared.parse_error.ParseError.TheVariants.{DuplicatedExtension, OutOfMemory}
+use Rattle.iloc_subtags.specs.declared.parse_error.ParseError.TheVariants.{InvalidLanguage, InvalidSubtag, InvalidExtension, DuplicatedExtension, OutOfMemory}
 use Rattle.iloc_subtags.specs.Judging.{RunsOutOnlyIf}
 
 -- what follows from the reason of an answer is a reason too

@@ -1,7 +1,5 @@
 -- A set of words as an ascending list: where a search ends, and words more or less.
-use Rattle.std.proofs.Common.{◌≡◌, ℕ, zero, suc, ◌<◌, ◌≤◌, Bool, true, false, cond, not, ◌||◌, T, List, []}
-use Rattle.std.proofs.Common.{◌∷◌, ◌++◌, length, filter, remove, drop, get_or, append-nil, ◌+◌, refl, sym, ap}
-use Rattle.std.proofs.Common.{◌∙◌, subst, arith}
+use Rattle.std.proofs.Common.{◌≡◌, ℕ, zero, suc, ◌<◌, ◌≤◌, Bool, true, false, cond, not, ◌||◌, T, List, [], ◌∷◌, ◌++◌, length, filter, remove, drop, get_or, append-nil, ◌+◌, refl, sym, ap, ◌∙◌, subst, arith}
 use Rattle.std.specs.Prelude.{insert}
 use Rattle.std.specs.List.{AllByRecursion, HoldsAt, list_any, slice_index_or}
 use Rattle.std.specs.List.Sorted.{IsNonDecreasingBy, IsPartitionPoint}
@@ -16,8 +14,7 @@ use Rattle.std.proofs.lemmas.List.Elements.{All-from_recursion}
 use Rattle.iloc_spec_grammar.specs.Syntax.{Text, word_cmp, is_same}
 use Rattle.iloc_spec_grammar.specs.Meaning.{set_of}
 use Rattle.iloc_spec_grammar.specs.Values.{StrictlyAscends}
-use Rattle.iloc_spec_grammar.proofs.MapLaws.{word_cmp_total, same_words, to_T, less}
-use Rattle.iloc_spec_grammar.proofs.MapLaws.{map_of_sorted, from_T}
+use Rattle.iloc_spec_grammar.proofs.MapLaws.{word_cmp_total, same_words, to_T, less, map_of_sorted, from_T}
 use Rattle.iloc_spec_grammar.proofs.ValuesLaws.{unmarked, set_of_ascending, keys_ascend, ascend_as_keys}
 use Rattle.iloc_word_list.specs.Ascending.{ascends}
 use Rattle.iloc_spec_grammar.proofs.SetLaws.{marked, keys, same_set, any-set_of}

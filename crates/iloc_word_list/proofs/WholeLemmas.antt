@@ -1,6 +1,5 @@
 -- Pieces that are all words, or not.
-use Rattle.std.proofs.Common.{◌≡◌, Bool, true, false, cond, ◌&&◌, ◌==◌, List, [], ◌∷◌, length, refl, sym}
-use Rattle.std.proofs.Common.{ap, ◌∙◌, true≢false, Some, None, Ok, Err}
+use Rattle.std.proofs.Common.{◌≡◌, Bool, true, false, cond, ◌&&◌, ◌==◌, List, [], ◌∷◌, length, refl, sym, ap, ◌∙◌, true≢false, Some, None, Ok, Err}
 use Rattle.std.specs.List.{list_all}
 use Rattle.iloc_spec_grammar.specs.Syntax.{Text, pieces, Subtag, is_word}
 use Rattle.iloc_spec_grammar.specs.Meaning.{normal_values}

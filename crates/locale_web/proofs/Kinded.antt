@@ -1,108 +1,26 @@
 -- The pieces of a normal text, read from the left, are the parts of its locale.
-use Rattle.std.proofs.Common.{◌≡◌, ◌≢◌, ℕ, ◌≤◌, Bool, true, false, List, [], ◌∷◌, ◌++◌, length}
-use Rattle.std.proofs.Common.{map, flat_map, Option, Some, None, IfSome, option_map, option_to_list}
-use Rattle.std.proofs.Common.{codes, refl, sym, ap, ◌∙◌, subst, arith, append_assoc, append-nil, true≢false}
+use Rattle.std.proofs.Common.{◌≡◌, ◌≢◌, ℕ, ◌≤◌, Bool, true, false, List, [], ◌∷◌, ◌++◌, length, map, flat_map, Option, Some, None, IfSome, option_map, option_to_list, codes, refl, sym, ap, ◌∙◌, subst, arith, append_assoc, append-nil, true≢false}
 use Rattle.std.specs.Char.{to_ascii_lowercase, is_ascii_alphanumeric}
 use Rattle.std.specs.List.{AllByRecursion}
 use Rattle.std.proofs.lemmas.Bool.{false_from_ne_true, and_parts}
-use Rattle.iloc_spec_grammar.specs.Syntax.{
-  code_x,
-  code_u,
-  code_t,
-  Text,
-  Block,
-  Language,
-  Script,
-  Region,
-  Variant,
-  Subtag,
-  UnicodeKey,
-  TransformKey,
-  Attribute,
-  PrivateSubtag,
-  Bounds,
-  languages,
-  is_word,
-  IsWord,
-  is_other_singleton,
-  SpelledIdentifier,
-  Unicode,
-  Transform,
-  Fields,
-  identifier_pieces,
-  is_true,
-  optional_pieces,
-  fields_pieces,
-  unicode_pieces,
-  HasWords,
-  IsHyphenFree,
-  pieces,
-}
+use Rattle.iloc_spec_grammar.specs.Syntax.{code_x, code_u, code_t, Text, Block, Language, Script, Region, Variant, Subtag, UnicodeKey, TransformKey, Attribute, PrivateSubtag, Bounds, languages, is_word, IsWord, is_other_singleton, SpelledIdentifier, Unicode, Transform, Fields, identifier_pieces, is_true, optional_pieces, fields_pieces, unicode_pieces, HasWords, IsHyphenFree, pieces}
 use Rattle.iloc_spec_grammar.specs.Syntax as words
 use Rattle.iloc_spec_grammar.specs.Meaning.{Locale, Extensions}
 use Rattle.iloc_spec_grammar.specs.Tree.{before_t, after_t, spelled_identifier}
-use Rattle.iloc_spec_grammar.specs.Values.{
-  IsNormal,
-  AreWellFormed,
-  IsExtensionsValue,
-  IsIdentifierValue,
-  lower_identifier,
-  spelled_value,
-  spelled_fields,
-  printed_pieces,
-  unicode_spelling,
-  transform_spelling,
-  other_spelling,
-  private_spelling,
-  extensions_spelling,
-}
+use Rattle.iloc_spec_grammar.specs.Values.{IsNormal, AreWellFormed, IsExtensionsValue, IsIdentifierValue, lower_identifier, spelled_value, spelled_fields, printed_pieces, unicode_spelling, transform_spelling, other_spelling, private_spelling, extensions_spelling}
 use Rattle.iloc_spec_grammar.proofs.General.{some_mapped, all_mapped}
 use Rattle.iloc_spec_grammar.proofs.PartTexts.{spelling_of_parts, id_pieces-low}
 use Rattle.iloc_spec_grammar.proofs.PiecesLaws.{pieces-join}
 use Rattle.iloc_spec_grammar.proofs.RawLaws.{languages_table}
 use Rattle.iloc_spec_grammar.proofs.ReadBack.{word_hyphen_free, all_append}
 use Rattle.iloc_spec_grammar.proofs.Readings.{language_no_key, identifier_no_key, long}
-use Rattle.iloc_spec_grammar.proofs.ValuesLaws.{
-  value_words,
-  value_identifier,
-  lower_is_identifier,
-  attribute_from,
-  all_weaker,
-  all_both,
-  spelled_rule,
-}
-use Rattle.iloc_spec_grammar.proofs.WordsLaws.{
-  length-language,
-  length-script,
-  length-region,
-  length-variant,
-  length-attribute,
-  length-unicode_key,
-  length-transform_key,
-  region_no_script,
-  variant_no_script,
-  variant_no_region,
-}
+use Rattle.iloc_spec_grammar.proofs.ValuesLaws.{value_words, value_identifier, lower_is_identifier, attribute_from, all_weaker, all_both, spelled_rule}
+use Rattle.iloc_spec_grammar.proofs.WordsLaws.{length-language, length-script, length-region, length-variant, length-attribute, length-unicode_key, length-transform_key, region_no_script, variant_no_script, variant_no_region}
 use Rattle.iloc_pieces.specs.Cursor.{IsShortPiece}
 use Rattle.iloc_pieces.proofs.CursorLemmas.{short_word}
 use Rattle.iloc_expected.proofs.Following.{other_apart}
 use Rattle.iloc_text_parts.proofs.KeywordLemmas.{all_after, all_before, each_option, long_subtag}
-use Rattle.locale_web.specs.Kinds.{
-  KindedPiece,
-  of_kind,
-  parts_of_identifier,
-  parts_of_optional,
-  parts_of_fields,
-  parts_of_block,
-  parts_of_transform,
-  parts_of_unicode,
-  parts_of_others,
-  parts_of_private,
-  parts_of_extensions,
-  parts_of,
-  IsOfKind,
-  IsNormalTextOf,
-}
+use Rattle.locale_web.specs.Kinds.{KindedPiece, of_kind, parts_of_identifier, parts_of_optional, parts_of_fields, parts_of_block, parts_of_transform, parts_of_unicode, parts_of_others, parts_of_private, parts_of_extensions, parts_of, IsOfKind, IsNormalTextOf}
 use Rattle.locale_web.specs.Steps.{AreShortPieces, begun, inside, step, kinded, word_kind}
 use Rattle.locale_web.specs.declared.kind.Kind.{Kind}
 use Rattle.locale_web.specs.declared.kind.Kind.TheVariants as kinds

@@ -1,21 +1,12 @@
 -- Where the parts of a normal text stand.
-use Rattle.std.proofs.Common.{◌≡◌, ℕ, ◌+◌, ◌-◌, ◌≤◌, List, [], ◌∷◌, ◌++◌, length, map, take, drop, refl, sym}
-use Rattle.std.proofs.Common.{ap, ◌∙◌, arith, append_assoc, length-append}
+use Rattle.std.proofs.Common.{◌≡◌, ℕ, ◌+◌, ◌-◌, ◌≤◌, List, [], ◌∷◌, ◌++◌, length, map, take, drop, refl, sym, ap, ◌∙◌, arith, append_assoc, length-append}
 use Rattle.std.specs.List.{AllByRecursion}
 use Rattle.std.proofs.lemmas.List.{drop_at, take_at}
 use Rattle.iloc_spec_grammar.specs.Meaning.{Locale}
 use Rattle.iloc_spec_grammar.specs.Syntax.{Text, join, pieces}
 use Rattle.iloc_spec_grammar.proofs.PartTexts.{join-dashes}
 use Rattle.iloc_spec_grammar.proofs.PiecesLaws.{join-pieces}
-use Rattle.locale_web.specs.Kinds.{
-  ArePlaced,
-  IsOfKind,
-  IsNormalTextOf,
-  KindedPiece,
-  parts_of,
-  rows_from,
-  rows_of,
-}
+use Rattle.locale_web.specs.Kinds.{ArePlaced, IsOfKind, IsNormalTextOf, KindedPiece, parts_of, rows_from, rows_of}
 use Rattle.locale_web.specs.declared.state.State.TheVariants.{Start}
 use Rattle.locale_web.proofs.Kinded.{text_kinded, kinded_pieces}
 

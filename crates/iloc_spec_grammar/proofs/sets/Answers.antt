@@ -2,13 +2,7 @@
 use Rattle.iloc_spec_grammar.proofs.ValuesLaws.{set_of_ascending}
 use Rattle.iloc_spec_grammar.proofs.WellRead.{set_of-ascending}
 use Rattle.iloc_spec_grammar.proofs.Orders.{set_of_reordered}
-use Rattle.iloc_spec_grammar.proofs.SetLaws.{
-  any-set_of,
-  set_of-first,
-  set_of-last,
-  length-set_of,
-  length-set_of-different,
-}
+use Rattle.iloc_spec_grammar.proofs.SetLaws.{any-set_of, set_of-first, set_of-last, length-set_of, length-set_of-different}
 use Rattle.iloc_spec_grammar.proofs.sets.Goals as goal
 
 pub returns : goal.returns

@@ -1,12 +1,6 @@
 -- By the mode, the text is judged as its reader answered.
 use Rattle.iloc_normalize.specs.declared.Mode.TheVariants.{Langid, Locale}
-use Rattle.iloc_calls.proofs.AnswerLemmas.{
-  identifier_read,
-  locale_read,
-  judged,
-  text_of_identifier,
-  text_of_locale,
-}
+use Rattle.iloc_calls.proofs.AnswerLemmas.{identifier_read, locale_read, judged, text_of_identifier, text_of_locale}
 use Rattle.iloc_calls.proofs.answers.judge_parsed.Goals as goal
 
 pub returns-in-Langid : goal.returns-in-Langid

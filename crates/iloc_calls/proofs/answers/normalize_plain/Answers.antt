@@ -8,10 +8,7 @@ use Rattle.iloc_calls.specs.declared.status.Status.TheVariants.{BufferTooSmall}
 use Rattle.iloc_calls.proofs.ByNumbers.{few_modes}
 use Rattle.iloc_calls.proofs.HandedLemmas.{handed_out, withheld}
 use Rattle.iloc_calls.proofs.answers.normalize_plain.Goals as goal
-use Rattle.iloc_calls.proofs.answers.normalize_plain.Goals.{
-  then-mode-gt2-via-then-mode-gt2,
-  then-mode-gt2-via-else-mode-gt2+then-plain-buffer,
-}
+use Rattle.iloc_calls.proofs.answers.normalize_plain.Goals.{then-mode-gt2-via-then-mode-gt2, then-mode-gt2-via-else-mode-gt2+then-plain-buffer}
 
 pub returns-then-mode-gt2 : goal.returns-then-mode-gt2
 returns-then-mode-gt2 g c =

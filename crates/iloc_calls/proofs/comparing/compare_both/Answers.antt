@@ -1,14 +1,6 @@
 -- By the mode, both texts are ordered as its reader answered.
 use Rattle.iloc_normalize.specs.declared.Mode.TheVariants.{Langid, Locale, Data}
-use Rattle.iloc_calls.proofs.AnswerLemmas.{
-  identifier_read,
-  locale_read,
-  data_read,
-  ordered,
-  text_of_identifier,
-  text_of_locale,
-  text_of_data,
-}
+use Rattle.iloc_calls.proofs.AnswerLemmas.{identifier_read, locale_read, data_read, ordered, text_of_identifier, text_of_locale, text_of_data}
 use Rattle.iloc_calls.proofs.comparing.compare_both.Goals as goal
 
 pub returns-in-Langid : goal.returns-in-Langid

@@ -1,14 +1,6 @@
 -- By the mode, the text is compared as its reader answered.
 use Rattle.iloc_normalize.specs.declared.Mode.TheVariants.{Langid, Locale, Data}
-use Rattle.iloc_calls.proofs.AnswerLemmas.{
-  identifier_read,
-  locale_read,
-  data_read,
-  compared,
-  text_of_identifier,
-  text_of_locale,
-  text_of_data,
-}
+use Rattle.iloc_calls.proofs.AnswerLemmas.{identifier_read, locale_read, data_read, compared, text_of_identifier, text_of_locale, text_of_data}
 use Rattle.iloc_calls.proofs.comparing.strict_cmp.Goals as goal
 
 pub returns-in-Langid : goal.returns-in-Langid

@@ -1,7 +1,6 @@
 use Rattle.std.proofs.Common.{refl, sym, ◌∙◌}
 use Rattle.iloc_extensions.specs.ExtensionsValue.{value_of}
-use Rattle.iloc_extensions.proofs.AnswerLemmas.{letter_refused, part_refused, block_at, no_unicode, no_transform}
-use Rattle.iloc_extensions.proofs.AnswerLemmas.{no_private}
+use Rattle.iloc_extensions.proofs.AnswerLemmas.{letter_refused, part_refused, block_at, no_unicode, no_transform, no_private}
 use Rattle.iloc_extensions.proofs.blocks.read_block.Goals as goal
 
 pub returns-then-not-is_ascii_alphanumeric-clause-reads :

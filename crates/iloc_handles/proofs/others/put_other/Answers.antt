@@ -1,14 +1,12 @@
 -- An extension is put over that of its singleton, or before the first that is greater.
-use Rattle.std.proofs.Common.{◌≡◌, ◌≢◌, ◌<◌, length, slice_get, slice_set, slice_index_or, Some, refl, sym}
-use Rattle.std.proofs.Common.{ap, ◌∙◌, arith}
+use Rattle.std.proofs.Common.{◌≡◌, ◌≢◌, ◌<◌, length, slice_get, slice_set, slice_index_or, Some, refl, sym, ap, ◌∙◌, arith}
 use Rattle.std.specs.List.{insert}
 use Rattle.std.proofs.lemmas.Option.{get_or_from_slice_get, slice_get_read, slice_get_within}
 use Rattle.iloc_spec_grammar.specs.Syntax.{Block}
 use Rattle.iloc_handles.specs.OtherPlaces.{how_many_less}
 use Rattle.iloc_handles.proofs.OtherLemmas.{place_fits, put_new, put_there}
 use Rattle.iloc_handles.proofs.others.put_other.Goals as goal
-use Rattle.iloc_handles.proofs.others.put_other.Goals.{else-place-len-via-then-place-len+else-get_ext_byte}
-use Rattle.iloc_handles.proofs.others.put_other.Goals.{else-place-len-via-else-place-len}
+use Rattle.iloc_handles.proofs.others.put_other.Goals.{else-place-len-via-then-place-len+else-get_ext_byte, else-place-len-via-else-place-len}
 
 pub insert-requires : goal.insert-requires
 insert-requires c =

@@ -2,11 +2,7 @@ use Rattle.std.proofs.Common.{sym, ◌∙◌, codes, nat_eq}
 use Rattle.std.specs.Cmp.Lexicographic.{pointwise}
 use Rattle.iloc_keyword_types.proofs.CalendarLemmas.{three_words, ethioaa_where}
 use Rattle.iloc_keyword_types.proofs.calendar_conversions.of_three.Goals as goal
-use Rattle.iloc_keyword_types.proofs.calendar_conversions.of_three.Goals.{
-  else-eq-via-then-eq+then-eq-2+else-eq-3,
-  else-eq-via-then-eq+else-eq-2,
-  else-eq-via-else-eq,
-}
+use Rattle.iloc_keyword_types.proofs.calendar_conversions.of_three.Goals.{else-eq-via-then-eq+then-eq-2+else-eq-3, else-eq-via-then-eq+else-eq-2, else-eq-via-else-eq}
 
 pub returns-then-eq-3 : goal.returns-then-eq-3
 returns-then-eq-3 c = sym (three_words c.args.first.now c.args.second.now c.args.third.now

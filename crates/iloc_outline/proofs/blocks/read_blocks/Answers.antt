@@ -13,14 +13,7 @@ use Rattle.iloc_outline.proofs.RefusalLemmas.{refused_before}
 use Rattle.iloc_outline.proofs.SingletonSteps as at
 use Rattle.iloc_outline.proofs.blocks.read_blocks.Given.{Over}
 use Rattle.iloc_outline.proofs.blocks.read_blocks.Goals as goal
-use Rattle.iloc_outline.proofs.blocks.read_blocks.Goals.{
-  After-read_body-found,
-  Joined-rank-last-2,
-  else-rank-last,
-  else-rank-last-2,
-  then-rank-last+else-has_block,
-  then-rank-last-2,
-}
+use Rattle.iloc_outline.proofs.blocks.read_blocks.Goals.{After-read_body-found, Joined-rank-last-2, else-rank-last, else-rank-last-2, then-rank-last+else-has_block, then-rank-last-2}
 
 pub singletons-init : goal.singletons-init
 singletons-init g c =

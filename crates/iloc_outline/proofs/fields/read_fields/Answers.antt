@@ -1,5 +1,4 @@
-use Rattle.std.proofs.Common.{◌≡◌, ◌≢◌, ◌∙◌, Bool, None, Option, Some, ap, arith, false, refl, rules, sym}
-use Rattle.std.proofs.Common.{true}
+use Rattle.std.proofs.Common.{◌≡◌, ◌≢◌, ◌∙◌, Bool, None, Option, Some, ap, arith, false, refl, rules, sym, true}
 use denote.Enum.Bare.{same_false, same_true}
 use Rattle.iloc_spans.specs.contracts.span.Role.{the_type}
 use Rattle.iloc_spans.specs.declared.span.Role.TheVariants.{Field}
@@ -8,26 +7,13 @@ use Rattle.iloc_spans.specs.Spans.{held_spans}
 use Rattle.iloc_spans.proofs.HeldLemmas.{length-held}
 use Rattle.iloc_outline.specs.declared.fields.FieldValue.{FieldValue}
 use Rattle.iloc_pieces.specs.declared.place.Cursor.{Cursor}
-use Rattle.iloc_outline.proofs.FieldLemmas.{
-  ends_in_key,
-  field_less,
-  key_kind_fits,
-  takes_end,
-  takes_few,
-  takes_full,
-  takes_more,
-  takes_none,
-  takes_past,
-}
+use Rattle.iloc_outline.proofs.FieldLemmas.{ends_in_key, field_less, key_kind_fits, takes_end, takes_few, takes_full, takes_more, takes_none, takes_past}
 use Rattle.iloc_outline.proofs.GatherLemmas.{gathers_from}
 use Rattle.iloc_outline.proofs.RefusalLemmas.{refused_before}
 use Rattle.iloc_outline.proofs.RoleLemmas.{short_key_kind, tried}
 use Rattle.iloc_outline.proofs.WordLemmas.{length-pieces_of}
 use Rattle.iloc_outline.proofs.fields.read_fields.Goals as goal
-use Rattle.iloc_outline.proofs.fields.read_fields.Goals.{
-  else-eq-via-then-eq+else-value-eq0,
-  else-eq-via-else-eq,
-}
+use Rattle.iloc_outline.proofs.fields.read_fields.Goals.{else-eq-via-then-eq+else-value-eq0, else-eq-via-else-eq}
 
 abbrev behind : Cursor → Bool → Option Cursor
 behind m b = unless_end b m

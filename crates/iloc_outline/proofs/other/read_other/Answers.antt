@@ -3,28 +3,10 @@ use Rattle.std.proofs.Common.{arith, ◌≡◌, true, sym, ap, ◌∙◌}
 use Rattle.iloc_spec_grammar.specs.Syntax.{is_other_singleton}
 use Rattle.iloc_pieces.specs.Cursor.{IsEnd, piece_left}
 use Rattle.iloc_pieces.proofs.CursorLemmas.{between_short, last_piece, past_none}
-use Rattle.iloc_outline.proofs.OtherLemmas.{
-  IsBetween,
-  PassesOneMore,
-  end_bad,
-  end_put,
-  more_odd,
-  more_subtag,
-  next_bad,
-  next_odd,
-  next_put,
-  other_next,
-  put_at,
-}
+use Rattle.iloc_outline.proofs.OtherLemmas.{IsBetween, PassesOneMore, end_bad, end_put, more_odd, more_subtag, next_bad, next_odd, next_put, other_next, put_at}
 use Rattle.iloc_outline.proofs.other.read_other.Given.{Over}
 use Rattle.iloc_outline.proofs.other.read_other.Goals as goal
-use Rattle.iloc_outline.proofs.other.read_other.Goals.{
-  then-is_subtag,
-  else-is_subtag,
-  then-not-is_good-2-via-then-not-is_good-2,
-  then-not-is_good-2-via-else-not-is_good-2+then-not-is_single,
-  After-is_last,
-}
+use Rattle.iloc_outline.proofs.other.read_other.Goals.{then-is_subtag, else-is_subtag, then-not-is_good-2-via-then-not-is_good-2, then-not-is_good-2-via-else-not-is_good-2+then-not-is_single, After-is_last}
 
 between : (g : Over) (c : After-is_last g) → IsBetween (piece_left c.pieces.cursor)
 between g c = sym c.is_between.ensures ∙ c.pieces-test.true

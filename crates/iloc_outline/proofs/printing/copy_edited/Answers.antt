@@ -1,14 +1,7 @@
 use Rattle.std.proofs.Common.{◌+◌, take, arith}
 use Rattle.iloc_pieces.specs.Cursor.{bytes_left}
 use Rattle.iloc_outline.specs.Printing.{bytes_from}
-use Rattle.iloc_outline.proofs.PrintingLemmas.{
-  bytes_here,
-  field_told,
-  no_field_told,
-  written_kept,
-  written_room,
-  written_true,
-}
+use Rattle.iloc_outline.proofs.PrintingLemmas.{bytes_here, field_told, no_field_told, written_kept, written_room, written_true}
 use Rattle.iloc_outline.proofs.printing.copy_edited.Goals as goal
 
 pub copy_piece-begun-requires-clause-room : goal.copy_piece-begun-requires-clause-room

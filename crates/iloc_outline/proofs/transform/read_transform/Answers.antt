@@ -1,12 +1,6 @@
 -- An identifier and fields up to the next block, or what is wrong.
 use Rattle.std.proofs.Common.{[], ◌∷◌, arith, sym, ◌∙◌}
-use Rattle.iloc_outline.proofs.RefusalLemmas.{
-  front_few,
-  full_at_block,
-  one_held,
-  refused_before,
-  words_few,
-}
+use Rattle.iloc_outline.proofs.RefusalLemmas.{front_few, full_at_block, one_held, refused_before, words_few}
 use Rattle.iloc_outline.proofs.TransformReading.{front_alone, variants_alone, variants_read}
 use Rattle.iloc_outline.proofs.transform.read_transform.Goals as goal
 

@@ -16,14 +16,7 @@ use Rattle.iloc_outline.proofs.RefusalLemmas.{refused_before}
 use Rattle.iloc_outline.proofs.WordLemmas.{length-pieces_of}
 use Rattle.iloc_outline.proofs.RoleLemmas.{short_kind}
 use Rattle.iloc_spans.proofs.HeldLemmas.{length-held}
-use Rattle.iloc_outline.proofs.WordsInOrder.{
-  IsKept,
-  walks_end,
-  walks_full,
-  walks_more,
-  walks_past,
-  walks_repeat,
-}
+use Rattle.iloc_outline.proofs.WordsInOrder.{IsKept, walks_end, walks_full, walks_more, walks_past, walks_repeat}
 use Rattle.iloc_outline.proofs.words.read_more_words.Goals as goal
 use Rattle.iloc_outline.proofs.words.read_more_words.Goals.{in-Put, in-There+else-eq}
 

@@ -6,15 +6,7 @@ use Rattle.iloc_outline.proofs.GatherLemmas.{gathers_from, put_full}
 use Rattle.iloc_outline.proofs.RefusalLemmas.{refused_before}
 use Rattle.iloc_outline.proofs.RoleLemmas.{short_kind}
 use Rattle.iloc_spans.proofs.HeldLemmas.{length-held}
-use Rattle.iloc_outline.proofs.WordsInOrder.{
-  IsKept,
-  walks_end,
-  walks_few,
-  walks_more,
-  walks_none,
-  walks_past,
-  walks_repeat,
-}
+use Rattle.iloc_outline.proofs.WordsInOrder.{IsKept, walks_end, walks_few, walks_more, walks_none, walks_past, walks_repeat}
 use Rattle.iloc_outline.proofs.words.read_words.Goals as goal
 use Rattle.iloc_outline.proofs.words.read_words.Goals.{in-Put, in-There+else-eq}
 

@@ -9,8 +9,7 @@ use mir.Syntax.{Args, a_type, named}
 use mir.Val.{vint}
 use prog.Memory.{size}
 use native.Mathlib.Nat.{mul-le-mul_right}
-use types.Kit.{‵, ◌⊛◌, given, some, later, ◌$◌, ◌∵◌, !, qed, move, keep, drop, split, split3, join, learn}
-use types.Kit.{fsplit, fjoin, use2, await, pick, suffices, frame, done}
+use types.Kit.{‵, ◌⊛◌, given, some, later, ◌$◌, ◌∵◌, !, qed, move, keep, drop, split, split3, join, learn, fsplit, fjoin, use2, await, pick, suffices, frame, done}
 use types.Part.{agg}
 use types.Run.{addr, stop, and_then, no_more, returns, enter}
 use types.ByLocal.{alloc_all, pass_all, free_all, look_at, get, through, sets}

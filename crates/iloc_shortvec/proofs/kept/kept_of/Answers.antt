@@ -1,5 +1,4 @@
-use Rattle.std.proofs.Common.{refl, subst, sym, ap, ◌∙◌, ◌≡◌, List, ◌∷◌, [], ◌++◌, length, insert, arith}
-use Rattle.std.proofs.Common.{drop, append-nil, length-append, of_calls}
+use Rattle.std.proofs.Common.{refl, subst, sym, ap, ◌∙◌, ◌≡◌, List, ◌∷◌, [], ◌++◌, length, insert, arith, drop, append-nil, length-append, of_calls}
 use Rattle.std.proofs.Math.ListN.{drop_of_length-le}
 use Rattle.std.proofs.iter.Next.{called_at}
 use Rattle.std.proofs.lemmas.List.Edits.{insert_end}

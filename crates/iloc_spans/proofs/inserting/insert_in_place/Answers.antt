@@ -3,8 +3,7 @@ use Rattle.std.proofs.lemmas.List.{get_or-map}
 use Rattle.iloc_spans.proofs.SortingSteps.{put_among, put_new, put_none, put_there, same_long}
 use Rattle.iloc_spans.proofs.HeldLemmas.{held_in_place, in_place, room_in_place}
 use Rattle.iloc_spans.proofs.inserting.insert_in_place.Goals as goal
-use Rattle.iloc_spans.proofs.inserting.insert_in_place.Goals.{else-at-count-via-then-at-count+else-list-at}
-use Rattle.iloc_spans.proofs.inserting.insert_in_place.Goals.{else-at-count-via-else-at-count}
+use Rattle.iloc_spans.proofs.inserting.insert_in_place.Goals.{else-at-count-via-then-at-count+else-list-at, else-at-count-via-else-at-count}
 
 pub returns-then-list-at-clause-inserted : goal.returns-then-list-at-clause-inserted
 returns-then-list-at-clause-inserted c = λ before ss n s.

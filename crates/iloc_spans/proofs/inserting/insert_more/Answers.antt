@@ -1,11 +1,9 @@
-use Rattle.std.proofs.Common.{◌≡◌, ◌≢◌, ◌<◌, ◌≤◌, ◌∷◌, ◌++◌, length, map, slice_index, take, drop, sym, ◌∙◌}
-use Rattle.std.proofs.Common.{arith}
+use Rattle.std.proofs.Common.{◌≡◌, ◌≢◌, ◌<◌, ◌≤◌, ◌∷◌, ◌++◌, length, map, slice_index, take, drop, sym, ◌∙◌, arith}
 use Rattle.std.proofs.lemmas.List.{get_or-map, take_all}
 use Rattle.iloc_spans.specs.Spans.{held_spans}
 use Rattle.iloc_spans.proofs.SortingSteps.{all_new, is_new, put_among, put_new, put_none, put_there}
 use Rattle.iloc_spans.proofs.inserting.insert_more.Goals as goal
-use Rattle.iloc_spans.proofs.inserting.insert_more.Goals.{else-at-held-via-then-at-held+else-held-at}
-use Rattle.iloc_spans.proofs.inserting.insert_more.Goals.{else-at-held-via-else-at-held}
+use Rattle.iloc_spans.proofs.inserting.insert_more.Goals.{else-at-held-via-then-at-held+else-held-at, else-at-held-via-else-at-held}
 
 pub returns-then-held-at-clause-inserted : goal.returns-then-held-at-clause-inserted
 returns-then-held-at-clause-inserted g c = λ before ss n s.

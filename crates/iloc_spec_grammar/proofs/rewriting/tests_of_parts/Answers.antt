@@ -1,11 +1,6 @@
 -- By the tests.
 use Rattle.iloc_spec_grammar.proofs.Equality.{iff_from_tests}
-use Rattle.iloc_spec_grammar.proofs.PartTests.{
-  tests_less_true,
-  tests_identifier_step,
-  tests_extension_step,
-  tests_step,
-}
+use Rattle.iloc_spec_grammar.proofs.PartTests.{tests_less_true, tests_identifier_step, tests_extension_step, tests_step}
 use Rattle.iloc_spec_grammar.proofs.rewriting.tests_of_parts.Goals as goal
 
 pub returns : goal.returns

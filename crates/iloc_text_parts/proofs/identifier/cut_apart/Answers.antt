@@ -1,14 +1,5 @@
 use Rattle.std.proofs.Common.{◌∙◌}
-use Rattle.iloc_text_parts.proofs.CutLemmas.{
-  after_region_is,
-  after_script_is,
-  base_is,
-  extensions_are,
-  first_is,
-  region_is,
-  script_is,
-  variants_are,
-}
+use Rattle.iloc_text_parts.proofs.CutLemmas.{after_region_is, after_script_is, base_is, extensions_are, first_is, region_is, script_is, variants_are}
 use Rattle.iloc_text_parts.proofs.identifier.cut_apart.Goals as goal
 
 pub returns-clause-parts : goal.returns-clause-parts

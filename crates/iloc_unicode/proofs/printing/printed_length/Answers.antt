@@ -2,8 +2,7 @@ use Rattle.std.proofs.Common.{rules, List, ◌≡◌, ◌∙◌, sym, ap, arith,
 use Rattle.std.proofs.lemmas.List.{at_drop_all}
 use Rattle.iloc_spec_grammar.specs.Syntax.{Text, join, dashes, fields_pieces}
 use Rattle.iloc_spec_grammar.proofs.WordsLaws.{length-unicode_key}
-use Rattle.iloc_unicode.proofs.LengthLemmas.{fits, does_not_fit, next_pair, rest_length, sum_is, sum_is_not}
-use Rattle.iloc_unicode.proofs.LengthLemmas.{whole_length}
+use Rattle.iloc_unicode.proofs.LengthLemmas.{fits, does_not_fit, next_pair, rest_length, sum_is, sum_is_not, whole_length}
 use Rattle.iloc_unicode.proofs.printing.printed_length.Goals as goal
 
 pub loop-pair-init : goal.loop-pair-init

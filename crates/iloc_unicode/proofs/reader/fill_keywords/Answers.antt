@@ -5,8 +5,7 @@ use Rattle.std.specs.FinMap.{find}
 use Rattle.iloc_memory.proofs.Within.{within_more}
 use Rattle.iloc_spec_grammar.specs.Syntax.{word_cmp}
 use Rattle.iloc_subtags.specs.Left.{left}
-use Rattle.iloc_unicode.proofs.KeywordLemmas.{two_bytes, filled_less, filled_more, filled_all, filled_bad}
-use Rattle.iloc_unicode.proofs.KeywordLemmas.{many_values, many_keys, values_room, pair_room}
+use Rattle.iloc_unicode.proofs.KeywordLemmas.{two_bytes, filled_less, filled_more, filled_all, filled_bad, many_values, many_keys, values_room, pair_room}
 use Rattle.iloc_unicode.proofs.reader.fill_keywords.Goals as goal
 
 refused_not : false ≡ true → ⊥

@@ -3,8 +3,7 @@ use Rattle.iloc_spec_grammar.specs.Meaning.{set_of}
 use Rattle.iloc_subtags.specs.Left.{left}
 use Rattle.iloc_memory.proofs.Within.{within_more}
 use Rattle.iloc_word_list.proofs.CollectorLaws.{set_taken, on_err}
-use Rattle.iloc_unicode.proofs.AttributeLemmas.{Gathered, gathered_few, gathered_more, gathered_many}
-use Rattle.iloc_unicode.proofs.AttributeLemmas.{gathered_room, taken_length}
+use Rattle.iloc_unicode.proofs.AttributeLemmas.{Gathered, gathered_few, gathered_more, gathered_many, gathered_room, taken_length}
 use Rattle.iloc_unicode.proofs.reader.read_more_attributes.Goals as goal
 
 pub words-init : goal.words-init

@@ -1,6 +1,5 @@
 -- The bytes that were copied stand behind those before, and the rest is as it was.
-use Rattle.std.proofs.Common.{◌≡◌, ◌+◌, ◌-◌, ◌≤◌, ◌++◌, length, take, drop, refl, ap, ◌∙◌, arith}
-use Rattle.std.proofs.Common.{length-take-le, length-drop}
+use Rattle.std.proofs.Common.{◌≡◌, ◌+◌, ◌-◌, ◌≤◌, ◌++◌, length, take, drop, refl, ap, ◌∙◌, arith, length-take-le, length-drop}
 use Rattle.std.proofs.lemmas.Slice.{take-put_mid, drop-put_mid}
 use borrow.Rule.Slice.PartMut.{same_len_mid}
 use Rattle.iloc_calls.proofs.filling.FillingSink.write_str.Goals as goal

@@ -1,13 +1,5 @@
 -- the clauses follow from what is read
-use Rattle.iloc_data.proofs.ReadLemmas.{
-  data_accepts,
-  data_refuses,
-  if_read,
-  is_converted,
-  is_meant,
-  keeps_narrow,
-  reads_back,
-}
+use Rattle.iloc_data.proofs.ReadLemmas.{data_accepts, data_refuses, if_read, is_converted, is_meant, keeps_narrow, reads_back}
 use Rattle.iloc_data.proofs.data_locale.DataLocale.try_from_utf8.Goals as goal
 
 pub returns-clause-accepted : goal.returns-clause-accepted

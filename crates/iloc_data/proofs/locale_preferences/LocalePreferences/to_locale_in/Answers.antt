@@ -3,12 +3,7 @@ use Rattle.std.proofs.Common.{rules, ap, sym, ◌∙◌, subst}
 use Rattle.iloc_spec_grammar.specs.Values.{IsWellFormed}
 use Rattle.iloc_spec_grammar.proofs.RawLaws.{languages_table}
 use Rattle.iloc_spec_parts.specs.Preferences.{preferences, is_strict}
-use Rattle.iloc_spec_parts.proofs.PreferenceLaws.{
-  locale_is_well_formed,
-  preferences_back,
-  back_only,
-  strict_locale,
-}
+use Rattle.iloc_spec_parts.proofs.PreferenceLaws.{locale_is_well_formed, preferences_back, back_only, strict_locale}
 use Rattle.iloc_data.proofs.locale_preferences.LocalePreferences.to_locale_in.Goals as goal
 
 pub returns-clause-value : goal.returns-clause-value

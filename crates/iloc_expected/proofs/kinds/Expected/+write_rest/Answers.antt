@@ -1,5 +1,4 @@
-use Rattle.std.proofs.Common.{arith}
-use Rattle.std.proofs.Common.{◌+◌, [], ◌++◌, refl, ◌∙◌, append_assoc}
+use Rattle.std.proofs.Common.{arith, ◌+◌, [], ◌++◌, refl, ◌∙◌, append_assoc}
 use Rattle.iloc_writeable.proofs.WritingLemmas.{Writes-last, Writes-stopped}
 use Rattle.iloc_expected.specs.Words.{after_first, kind_words, named_from}
 use Rattle.iloc_expected.proofs.SetBits.{rest_is}

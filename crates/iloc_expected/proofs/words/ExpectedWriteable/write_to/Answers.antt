@@ -1,5 +1,4 @@
-use Rattle.std.proofs.Common.{arith}
-use Rattle.std.proofs.Common.{◌+◌, [], refl}
+use Rattle.std.proofs.Common.{arith, ◌+◌, [], refl}
 use Rattle.iloc_writeable.proofs.WritingLemmas.{Writes-last, Writes-stopped}
 use Rattle.iloc_expected.specs.Kinds.{kind_bit}
 use Rattle.iloc_expected.specs.Words.{after_first, named_from}

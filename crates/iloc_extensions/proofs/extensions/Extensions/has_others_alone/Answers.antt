@@ -2,9 +2,7 @@
 use Rattle.std.proofs.Common.{◌≡◌, Bool, true, false, not, IsTrue, refl, sym, ◌∙◌}
 use Rattle.iloc_extensions.specs.ExtensionsValue.{value_of}
 use Rattle.iloc_extensions.proofs.SplitLemmas.{none_there, others_alone}
-use Rattle.iloc_extensions.proofs.extensions.Extensions.has_others_alone.Goals.{then-has_pieces, else-has_pieces}
-use Rattle.iloc_extensions.proofs.extensions.Extensions.has_others_alone.Goals.{then-has_pieces-2}
-use Rattle.iloc_extensions.proofs.extensions.Extensions.has_others_alone.Goals.{else-has_pieces-2}
+use Rattle.iloc_extensions.proofs.extensions.Extensions.has_others_alone.Goals.{then-has_pieces, else-has_pieces, then-has_pieces-2, else-has_pieces-2}
 use Rattle.iloc_extensions.proofs.extensions.Extensions.has_others_alone.Goals as goal
 
 was_false : (b : Bool) → IsTrue (not b) → b ≡ false

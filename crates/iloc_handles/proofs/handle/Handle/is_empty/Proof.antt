@@ -6,8 +6,7 @@ use mir.Val.{Val, vptr, vnull, vbool}
 use base.Fraction.{full_share}
 use base.Logic.{SProp, emp}
 use base.Fml.{ftrue, flft}
-use types.Kit.{‵, raw, ◌⊛◌, ◌$◌, ◌∵◌, !, qed, by, move, keep, drop, split, join, fsplit, fsplit3, fjoin}
-use types.Kit.{fjoin3, feq_i, rewrite, use0}
+use types.Kit.{‵, raw, ◌⊛◌, ◌$◌, ◌∵◌, !, qed, by, move, keep, drop, split, join, fsplit, fsplit3, fjoin, fjoin3, feq_i, rewrite, use0}
 use types.Run.{stop, fld, load, lit, of_opd, bin, returns, enter}
 use types.Part.{sub, whole, look_in}
 use types.ByLocal.{alloc_all, pass_all, free_all, look_at, get, through, sets}

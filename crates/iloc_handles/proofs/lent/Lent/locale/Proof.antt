@@ -5,8 +5,7 @@ use mir.Syntax.{named}
 use mir.Val.{Val, vptr}
 use base.Logic.{SProp, emp}
 use base.Fml.{Lft, ftrue, fhide, flft, fres}
-use types.Kit.{‵, raw, ◌⊛◌, later, at_ret, ◌$◌, ◌∵◌, !, qed, by, move, keep, drop, split, join, fsplit, fsplit3, fjoin}
-use types.Kit.{feq_i, rewrite, use0, use1, use2, await}
+use types.Kit.{‵, raw, ◌⊛◌, later, at_ret, ◌$◌, ◌∵◌, !, qed, by, move, keep, drop, split, join, fsplit, fsplit3, fjoin, feq_i, rewrite, use0, use1, use2, await}
 use types.Run.{stop, fld, load, of_opd, addr, first, blocks, exec, returns, enter}
 use types.Part.{sub, whole, look_in}
 use types.ByLocal.{alloc_all, pass_all, free_all, look_at, get, through, sets, sets_last, env}

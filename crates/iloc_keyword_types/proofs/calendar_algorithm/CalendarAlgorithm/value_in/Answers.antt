@@ -10,8 +10,7 @@ use Rattle.iloc_keyword_types.specs.declared.calendar_algorithm.CalendarAlgorith
 use Rattle.iloc_keyword_types.specs.Calendars.{place}
 use Rattle.iloc_keyword_types.specs.CalendarLaws.{placed_at}
 use Rattle.iloc_keyword_types.specs.Hijri.{kind_place}
-use Rattle.iloc_keyword_types.proofs.GivenLemmas.{reads_back, kind_normal, given_kind, given_plain}
-use Rattle.iloc_keyword_types.proofs.GivenLemmas.{hijri_place}
+use Rattle.iloc_keyword_types.proofs.GivenLemmas.{reads_back, kind_normal, given_kind, given_plain, hijri_place}
 use Rattle.iloc_keyword_types.proofs.calendar_algorithm.CalendarAlgorithm.value_in.Goals as goal
 
 -- the word of a calendar is a subtag

@@ -3,8 +3,7 @@ use Rattle.iloc_memory.specs.Refusals.{RefusedWithin}
 use Rattle.iloc_memory.proofs.Within.{within_more}
 use Rattle.std.proofs.lemmas.Result.{err_from_is_err_and}
 use Rattle.iloc_spec_parts.specs.Keywords.{scripts_read}
-use Rattle.iloc_keyword_types.proofs.ScriptLemmas.{none_before, takes_script, refuses_word, ends, lengthens}
-use Rattle.iloc_keyword_types.proofs.ScriptLemmas.{no_room}
+use Rattle.iloc_keyword_types.proofs.ScriptLemmas.{none_before, takes_script, refuses_word, ends, lengthens, no_room}
 use Rattle.iloc_keyword_types.proofs.script_exclusions.DictionaryBreakScriptExclusions.try_from_value_in.Goals as goal
 use Rattle.iloc_spec_grammar.specs.Syntax.{Text}
 

@@ -1,5 +1,4 @@
-use Rattle.std.proofs.Common.{◌≡◌, ◌<◌, ◌≤◌, ◌-◌, ℕ, zero, suc, List, [], take}
-use Rattle.std.proofs.Common.{◌∷◌, length, remove, refl, sym, ap, ◌∙◌, subst, arith}
+use Rattle.std.proofs.Common.{◌≡◌, ◌<◌, ◌≤◌, ◌-◌, ℕ, zero, suc, List, [], take, ◌∷◌, length, remove, refl, sym, ap, ◌∙◌, subst, arith}
 use Rattle.iloc_shortvec.specs.Kept.{items_of}
 use Rattle.iloc_shortvec.proofs.kept.Kept.take_out.Goals as goal
 

@@ -4,8 +4,7 @@ use Rattle.std.specs.Prelude.{OnOk, OnErr}
 use Rattle.std.specs.BTreeMap.{insert_entry}
 use Rattle.std.specs.Ordering.{nat_cmp}
 use Rattle.iloc_spans.specs.declared.span.Span.{Span}
-use Rattle.iloc_spans.proofs.GroupPuts.{each_keyed, grouped_put, grouped_there, inserted_few, keyed_each}
-use Rattle.iloc_spans.proofs.GroupPuts.{keyed_put}
+use Rattle.iloc_spans.proofs.GroupPuts.{each_keyed, grouped_put, grouped_there, inserted_few, keyed_each, keyed_put}
 use Rattle.iloc_spans.proofs.group.Group.put.Goals as goal
 
 either : {A B : Type 0} {P Q R : Type 0} (r : Result A B) → OnOk r P → OnErr r Q → (P → R) → (Q → R) → R

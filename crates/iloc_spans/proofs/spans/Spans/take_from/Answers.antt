@@ -1,5 +1,4 @@
-use Rattle.std.proofs.Common.{◌≡◌, ◌≢◌, ◌+◌, ◌-◌, ◌<◌, ◌≤◌, ℕ, List, ◌∷◌, ◌++◌, [], drop, length, take}
-use Rattle.std.proofs.Common.{slice_index_or, sym, ap, ◌∙◌, arith, refl}
+use Rattle.std.proofs.Common.{◌≡◌, ◌≢◌, ◌+◌, ◌-◌, ◌<◌, ◌≤◌, ℕ, List, ◌∷◌, ◌++◌, [], drop, length, take, slice_index_or, sym, ap, ◌∙◌, arith, refl}
 use Rattle.std.proofs.lemmas.List.{get_or-drop, length-drop, take_all, take_more}
 use Rattle.iloc_spans.specs.Group.{IsGrouped}
 use Rattle.iloc_spans.specs.Inserting.{spans_in_order}

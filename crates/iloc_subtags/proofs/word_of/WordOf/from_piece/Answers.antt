@@ -4,9 +4,7 @@ use Rattle.iloc_spec_grammar.specs.Values.{IsNormal}
 use Rattle.iloc_spec_grammar.proofs.ReadWords.{IsNormal-normal}
 use Rattle.iloc_spec_grammar.proofs.WordsLaws.{word_letters_or_digits}
 use Rattle.iloc_subtags.proofs.KindLemmas.{in_lower_case}
-use Rattle.iloc_subtags.proofs.word_of.WordOf.from_piece.Goals.{After-word_to_ascii_lowercase}
-use Rattle.iloc_subtags.proofs.word_of.WordOf.from_piece.Goals.{then-this-eq2-via-then-this-eq2}
-use Rattle.iloc_subtags.proofs.word_of.WordOf.from_piece.Goals.{then-this-eq2-via-else-this-eq2+then-this-eq8}
+use Rattle.iloc_subtags.proofs.word_of.WordOf.from_piece.Goals.{After-word_to_ascii_lowercase, then-this-eq2-via-then-this-eq2, then-this-eq2-via-else-this-eq2+then-this-eq8}
 use Rattle.iloc_subtags.proofs.word_of.WordOf.from_piece.Goals as goal
 
 module _ (g : _) (c : goal.After-word_to_ascii_lowercase g) where

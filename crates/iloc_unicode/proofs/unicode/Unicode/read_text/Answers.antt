@@ -3,8 +3,7 @@ use Rattle.iloc_spec_grammar.specs.Reading.{rest_of}
 use Rattle.iloc_spec_parts.specs.Parts.{begins_part, is_letter}
 use Rattle.iloc_subtags.specs.Left.{left}
 use Rattle.iloc_unicode.specs.UnicodeReads.{UnicodeFills}
-use Rattle.iloc_unicode.proofs.UnicodeLemmas.{no_letter, after_letter, TextAnswers, reads_apart, reads_memory}
-use Rattle.iloc_unicode.proofs.UnicodeLemmas.{unicode_joined}
+use Rattle.iloc_unicode.proofs.UnicodeLemmas.{no_letter, after_letter, TextAnswers, reads_apart, reads_memory, unicode_joined}
 use Rattle.iloc_unicode.proofs.RoomLemmas.{runs_out_within, rest_fits}
 use Rattle.iloc_unicode.proofs.unicode.Unicode.read_text.Goals as goal
 use Rattle.iloc_spec_grammar.specs.Syntax.{code_u}
