@@ -13,6 +13,7 @@ use iloc_memory::Memory;
 use iloc_other::{Other, Private};
 use iloc_transform::Transform;
 use iloc_unicode::Attributes;
+use iloc_unicode::keywords::copy_over;
 use std::alloc::AllocError;
 
 /// No extension, in which a copy of these is made.
@@ -38,7 +39,7 @@ pub fn fill<C: Copying>(
 {
     let keywords = &from.unicode.keywords;
     if !keywords.is_empty() {
-        keywords.fill(copying, &mut to.unicode.keywords)?;
+        copy_over(keywords, copying, &mut to.unicode.keywords)?;
     }
     if !has_keywords_alone(from) {
         fill_rest(copying, to, from)?;

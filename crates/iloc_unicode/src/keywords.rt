@@ -286,21 +286,6 @@ impl Keywords {
         *self = Keywords::new_single(key, value);
     }
 
-    /// Copies the pairs over an empty map: returned by value they would be moved twice more. Refusal: `AllocError`, only if
-    /// room for at most as many items as there are in all was refused.
-    #[inline(always)]
-    pub fn fill<C: Copying>(&self, copying: C, to: &mut Keywords) -> Result<(), AllocError>
-        requires { to.old ≡ [] }
-        ensures value { OnOk result (to.new ≡ self.now) }
-        ensures out_of_memory { OnErr result
-            (RefusedWithin C.Room.refused (pairs_items length self.now)) }
-    {
-        if self.copy_single(to) {
-            return Ok(());
-        }
-        self.copy_onto(copying, to)
-    }
-
     // Copies the only pair over another map, if its value is one subtag. Else it returns `false`, and nothing changes.
     #[inline(always)]
     fn copy_single(&self, to: &mut Keywords) -> bool
@@ -638,13 +623,32 @@ impl Clone for Keywords {
     }
 }
 
+/// Copies keywords over an empty map: returned by value they would be moved twice more. Refusal: `AllocError`, only if room
+/// for at most as many items as there are in all was refused.
+#[inline(always)]
+pub fn copy_over<C: Copying>(
+    from: &Keywords,
+    copying: C,
+    to: &mut Keywords,
+) -> Result<(), AllocError>
+    requires { to.old ≡ [] }
+    ensures value { OnOk result (to.new ≡ from.now) }
+    ensures out_of_memory { OnErr result
+        (RefusedWithin C.Room.refused (pairs_items length from.now)) }
+{
+    if from.copy_single(to) {
+        return Ok(());
+    }
+    from.copy_onto(copying, to)
+}
+
 impl Copied for Keywords {
     ghost size = { pairs_items length };
 
     #[inline(always)]
     fn copied<C: Copying>(&self, copying: C) -> Result<Self, AllocError> {
         let mut copy = Keywords::new();
-        self.fill(copying, &mut copy)?;
+        copy_over(self, copying, &mut copy)?;
         Ok(copy)
     }
 }
