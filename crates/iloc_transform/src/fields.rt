@@ -177,11 +177,6 @@ impl Fields {
     {
         let _ = key.as_str();
         let _ = value.as_slice();
-        // A first field needs no place.
-        if self.is_empty() {
-            self.put_first(memory, key, value)?;
-            return Ok(None);
-        }
         if let Some(old) = self.map.get_mut(&key) {
             return Ok(Some(mem::replace(old, value)));
         }
@@ -190,7 +185,6 @@ impl Fields {
     }
 
     // Leaves this one field, with room for no more.
-    #[inline(never)]
     fn put_first<M: Memory>(&mut self, memory: M, key: Key, value: Value) -> Result<(), AllocError>
         ensures ok { OnOk result (self.new ≡ (key, value) ∷ []) }
         ensures err { OnErr result (self.new ≡ self.old) }
@@ -213,6 +207,11 @@ impl Fields {
     {
         let _ = key.as_str();
         let _ = value.as_slice();
+        // A first field needs no place.
+        if self.is_empty() {
+            self.put_first(memory, key, value)?;
+            return Ok(());
+        }
         self.map.insert_in(memory, key, value)?;
         Ok(())
     }
