@@ -193,8 +193,16 @@ impl Locale {
         ensures narrow { (M : meaning.Locale) → Means two_or_three s.now M
             → Accepts value_of ⊤ M result }
     {
-        // (a call of `try_from_str_in` would copy the locale once more)
-        Self::try_from_utf8_in(alloc, s.as_bytes())
+        // (a call of `try_from_utf8_in` would copy the locale or its refusal once more)
+        let bytes = s.as_bytes();
+        let mut id = LanguageIdentifier::unknown();
+        if fill_short(bytes, &mut id)? {
+            return Ok(Locale {
+                id,
+                extensions: Extensions::new_in(alloc),
+            });
+        }
+        Self::filled(alloc, bytes)
     }
 
     /// Parses all of a `str`, as `try_from_utf8_in` parses bytes.
