@@ -1,6 +1,5 @@
 -- Pieces that are, in whatever order and case, the words of a set.
-use Rattle.std.proofs.Common.{◌≡◌, Bool, true, false, ◌||◌, List, [], ◌∷◌, length, map, refl, sym, ap, ◌∙◌}
-use Rattle.std.proofs.Common.{subst, arith, true≢false, Option, Some, None, option_map, nat_eq}
+use Rattle.std.proofs.Common.{◌≡◌, Bool, true, false, ◌||◌, List, [], ◌∷◌, length, map, refl, sym, ap, ◌∙◌, subst, arith, true≢false, Option, Some, None, option_map, nat_eq}
 use Rattle.std.specs.Option.{option_eq}
 use Rattle.std.specs.Cmp.Lexicographic.{pointwise, same_text, other_text}
 use Rattle.std.specs.List.{AllByRecursion, list_any, list_all}
@@ -10,21 +9,16 @@ use Rattle.std.specs.declared.cmp.Ordering.{Ordering}
 use Rattle.std.specs.declared.cmp.Ordering.TheVariants.{Less, Equal, Greater}
 use Rattle.std.proofs.lemmas.Bool.{and_parts, and_from, or_parts, false_from_ne_true}
 use Rattle.std.proofs.lemmas.List.{length-map}
-use Rattle.iloc_spec_grammar.specs.Syntax.{Text, Language, Script, Region, Variant, is_word, IsWord, lower}
-use Rattle.iloc_spec_grammar.specs.Syntax.{title, upper, word_cmp, is_same, languages, SpelledIdentifier}
-use Rattle.iloc_spec_grammar.specs.Syntax.{Identifier, AllDifferent, first_piece}
+use Rattle.iloc_spec_grammar.specs.Syntax.{Text, Language, Script, Region, Variant, is_word, IsWord, lower, title, upper, word_cmp, is_same, languages, SpelledIdentifier, Identifier, AllDifferent, first_piece}
 use Rattle.iloc_spec_grammar.specs.Meaning.{IdentifierMeans, set_of, map_of}
-use Rattle.iloc_spec_grammar.specs.Values.{IsNormal, StrictlyAscends, Reordered, none, front_kept}
-use Rattle.iloc_spec_grammar.specs.Values.{first_two, in_turn}
+use Rattle.iloc_spec_grammar.specs.Values.{IsNormal, StrictlyAscends, Reordered, none, front_kept, first_two, in_turn}
 use Rattle.iloc_spec_grammar.proofs.WordsLaws.{is_word-lower}
 use Rattle.iloc_spec_grammar.proofs.MapLaws.{word_cmp_total, same_itself, same_is}
-use Rattle.iloc_spec_grammar.proofs.Orders.{itself, turned, any_reordered, all_reordered}
-use Rattle.iloc_spec_grammar.proofs.Orders.{different_reordered, length_reordered, set_of_reordered}
+use Rattle.iloc_spec_grammar.proofs.Orders.{itself, turned, any_reordered, all_reordered, different_reordered, length_reordered, set_of_reordered}
 use Rattle.iloc_spec_grammar.proofs.ValuesLaws.{set_of_ascending, ascending_different}
 use Rattle.iloc_langid.proofs.WalkLemmas.{apart}
 use Rattle.iloc_langid.specs.Agreeing.{is_among, are_all_among}
-use Rattle.iloc_spec_grammar.specs.Reading.{take_first, skip_first, passing, past, rest_of, after_region}
-use Rattle.iloc_spec_grammar.specs.Reading.{front_of}
+use Rattle.iloc_spec_grammar.specs.Reading.{take_first, skip_first, passing, past, rest_of, after_region, front_of}
 use Rattle.iloc_spec_grammar.proofs.ReadingLaws.{front_of-pieces, keep_all}
 use Rattle.iloc_langid.specs.declared.identifier.LanguageIdentifier.{LanguageIdentifier}
 use Rattle.iloc_langid.specs.Reads.{value_of}

@@ -1,12 +1,10 @@
 -- The block after a singleton, when all the pieces that are left are read.
-use Rattle.std.proofs.Common.{◌≡◌, ◌≢◌, ◌⊎◌, inl, inr, ℕ, Bool, true, false, cond, ◌==◌, List, [], ◌∷◌}
-use Rattle.std.proofs.Common.{refl, ap, ◌∙◌, arith, Option, Some, None, option_map, Result, Ok, Err}
+use Rattle.std.proofs.Common.{◌≡◌, ◌≢◌, ◌⊎◌, inl, inr, ℕ, Bool, true, false, cond, ◌==◌, List, [], ◌∷◌, refl, ap, ◌∙◌, arith, Option, Some, None, option_map, Result, Ok, Err}
 use Rattle.std.specs.Char.{is_ascii_alphanumeric, to_ascii_lowercase}
 use Rattle.std.specs.List.{list_all}
 use Rattle.std.proofs.lemmas.Bool.{and_parts}
 use Rattle.std.proofs.lemmas.Bool.Decides.{nat_tests}
-use Rattle.iloc_spec_grammar.specs.Syntax.{code_x, code_u, Text, Kind, Attribute, UnicodeKey, is_word}
-use Rattle.iloc_spec_grammar.specs.Syntax.{IsWord, lower, is_one_byte, front, blocks, first_piece}
+use Rattle.iloc_spec_grammar.specs.Syntax.{code_x, code_u, Text, Kind, Attribute, UnicodeKey, is_word, IsWord, lower, is_one_byte, front, blocks, first_piece}
 use Rattle.iloc_spec_grammar.specs.Meaning.{Fault}
 use Rattle.iloc_spec_grammar.specs.Reading.{take_first, skip_first}
 use Rattle.iloc_spec_grammar.proofs.WordsLaws.{length-attribute, length-unicode_key}

@@ -1,28 +1,17 @@
 -- From what a front is read as to what the whole or the head is read as.
-use Rattle.std.proofs.Common.{◌≡◌, ◌≢◌, inl, inr, true, false, List, [], ◌∷◌, ◌++◌, refl, sym, ap, ◌∙◌}
-use Rattle.std.proofs.Common.{subst, append-nil, Some, None, option_map, Result, Ok, Err, true≢false, arith}
+use Rattle.std.proofs.Common.{◌≡◌, ◌≢◌, inl, inr, true, false, List, [], ◌∷◌, ◌++◌, refl, sym, ap, ◌∙◌, subst, append-nil, Some, None, option_map, Result, Ok, Err, true≢false, arith}
 use Rattle.std.specs.Result.{result_and}
-use Rattle.iloc_spec_grammar.specs.Syntax.{Text, Language, Script, Region, is_word, IsWord, normal, lower}
-use Rattle.iloc_spec_grammar.specs.Syntax.{title, upper, languages, first_piece, front, head}
-use Rattle.iloc_spec_grammar.specs.Meaning.{IdentifierMeans, HasIdentifierFault, not_a_language}
-use Rattle.iloc_spec_grammar.specs.Meaning.{not_an_identifier}
-use Rattle.iloc_spec_grammar.specs.Reading.{first_item, take_first, skip_first, front_of}
-use Rattle.iloc_spec_grammar.specs.Reading.{after_front, from_block, after_head, starts_block}
-use Rattle.iloc_spec_grammar.proofs.ReadingLaws.{EndsWords, starts_ends, from_block_starts}
-use Rattle.iloc_spec_grammar.proofs.ReadingLaws.{front-from_block, front_long, after_long, starts_empty}
-use Rattle.iloc_spec_grammar.proofs.ReadingLaws.{after_front-append, front_means, refuses_more}
-use Rattle.iloc_spec_grammar.proofs.ReadingLaws.{refuses_repeat, front_of-append, front_is_front}
-use Rattle.iloc_spec_grammar.specs.Reading.{IdentifierFront}
+use Rattle.iloc_spec_grammar.specs.Syntax.{Text, Language, Script, Region, is_word, IsWord, normal, lower, title, upper, languages, first_piece, front, head}
+use Rattle.iloc_spec_grammar.specs.Meaning.{IdentifierMeans, HasIdentifierFault, not_a_language, not_an_identifier}
+use Rattle.iloc_spec_grammar.specs.Reading.{first_item, take_first, skip_first, front_of, after_front, from_block, after_head, starts_block, IdentifierFront}
+use Rattle.iloc_spec_grammar.proofs.ReadingLaws.{EndsWords, starts_ends, from_block_starts, front-from_block, front_long, after_long, starts_empty, after_front-append, front_means, refuses_more, refuses_repeat, front_of-append, front_is_front}
 use Rattle.iloc_subtags.specs.declared.parse_error.ParseError.{ParseError}
-use Rattle.iloc_subtags.specs.declared.parse_error.ParseError.TheVariants.{InvalidLanguage, InvalidSubtag}
-use Rattle.iloc_subtags.specs.declared.parse_error.ParseError.TheVariants.{InvalidExtension}
-use Rattle.iloc_subtags.specs.declared.parse_error.ParseError.TheVariants.{DuplicatedExtension, OutOfMemory}
+use Rattle.iloc_subtags.specs.declared.parse_error.ParseError.TheVariants.{InvalidLanguage, InvalidSubtag, InvalidExtension, DuplicatedExtension, OutOfMemory}
 use Rattle.iloc_subtags.specs.Judging.{Answers, RunsOutOnlyIf}
 use Rattle.iloc_langid.specs.declared.identifier.LanguageIdentifier.{LanguageIdentifier}
 use Rattle.iloc_langid.specs.declared.plain.PlainParts.{PlainParts}
 use Rattle.iloc_langid.specs.PlainReads.{IsPlainFront}
-use Rattle.iloc_langid.specs.Reads.{value_of, IdentifierReads, IdentifierWantsMemory, FrontComputed}
-use Rattle.iloc_langid.specs.Reads.{FrontReads, VariantsReads}
+use Rattle.iloc_langid.specs.Reads.{value_of, IdentifierReads, IdentifierWantsMemory, FrontComputed, FrontReads, VariantsReads}
 
 pub no_empty_language : is_word (Language languages) [] ≡ false
 unfolding is_word languages

@@ -1,26 +1,18 @@
 -- From the words at the front and the pieces after them to the whole text.
-use Rattle.std.proofs.Common.{◌≡◌, ◌≢◌, ℕ, Bool, true, false, List, [], ◌∷◌, sym, ap, ◌∙◌}
-use Rattle.std.proofs.Common.{subst, arith, Option, Some, None, Result, Ok, Err, MatchResult}
-use Rattle.iloc_spec_grammar.specs.Syntax.{Text, pieces, Language, Script, Region, Variant, is_word, IsWord}
-use Rattle.iloc_spec_grammar.specs.Syntax.{languages, is_one_byte, front, blocks, head}
-use Rattle.iloc_spec_grammar.specs.Syntax.{tail_blocks, first_piece}
+use Rattle.std.proofs.Common.{◌≡◌, ◌≢◌, ℕ, Bool, true, false, List, [], ◌∷◌, sym, ap, ◌∙◌, subst, arith, Option, Some, None, Result, Ok, Err, MatchResult}
+use Rattle.iloc_spec_grammar.specs.Syntax.{Text, pieces, Language, Script, Region, Variant, is_word, IsWord, languages, is_one_byte, front, blocks, head, tail_blocks, first_piece}
 use Rattle.iloc_spec_grammar.specs.Reading.{take_first, skip_first, after_region, starts_block}
 use Rattle.iloc_spec_grammar.specs.Meaning.{Fault}
 use Rattle.iloc_spec_grammar.specs.Meaning as faults
 use Rattle.iloc_spec_grammar.proofs.WordsLaws.{length-script, length-region, length-variant}
 use Rattle.iloc_spec_grammar.proofs.RawLaws.{languages_table}
-use Rattle.iloc_spec_parts.specs.Small.{SmallIdentifier, SmallLocale, IsSmallIdentifier, IsSmall}
-use Rattle.iloc_spec_parts.specs.Small.{HasSmallIdentifierFault, no_language, HasSmallFault, bad_head}
-use Rattle.iloc_spec_parts.specs.SmallComputing.{small_identifier_result, blocks_result, after_identifier}
-use Rattle.iloc_spec_parts.specs.SmallComputing.{small_result}
-use Rattle.iloc_spec_parts.proofs.SmallLaws.{one_small_identifier, small_identifier_answer}
-use Rattle.iloc_spec_parts.proofs.SmallLaws.{small_identifier_apart, small_answer}
+use Rattle.iloc_spec_parts.specs.Small.{SmallIdentifier, SmallLocale, IsSmallIdentifier, IsSmall, HasSmallIdentifierFault, no_language, HasSmallFault, bad_head}
+use Rattle.iloc_spec_parts.specs.SmallComputing.{small_identifier_result, blocks_result, after_identifier, small_result}
+use Rattle.iloc_spec_parts.proofs.SmallLaws.{one_small_identifier, small_identifier_answer, small_identifier_apart, small_answer}
 use Rattle.iloc_langid.specs.SmallReads.{Parts, small_of, front_parts, after_parts, SmallFrontReads}
 use Rattle.iloc_langid.proofs.SmallLemmas.{parts_whole, parts_more}
 use Rattle.iloc_subtags.specs.declared.parse_error.ParseError.{ParseError}
-use Rattle.iloc_subtags.specs.declared.parse_error.ParseError.TheVariants.{InvalidLanguage, InvalidSubtag}
-use Rattle.iloc_subtags.specs.declared.parse_error.ParseError.TheVariants.{InvalidExtension}
-use Rattle.iloc_subtags.specs.declared.parse_error.ParseError.TheVariants.{DuplicatedExtension, OutOfMemory}
+use Rattle.iloc_subtags.specs.declared.parse_error.ParseError.TheVariants.{InvalidLanguage, InvalidSubtag, InvalidExtension, DuplicatedExtension, OutOfMemory}
 use Rattle.iloc_langid.specs.SmallLocaleReads.{Keyword, LocaleParts, small_locale_of, SmallLocaleTextReads}
 use Rattle.iloc_langid.specs.BlockReads.{answer_of, block_result}
 use Rattle.iloc_langid.proofs.BlockLemmas.{with_keyword, blocks_read}

@@ -1,18 +1,14 @@
 -- The fallback chain: the last of a set taken out, one part fewer, and the end of the chain.
-use Rattle.std.proofs.Common.{◌≡◌, ℕ, zero, suc, ◌+◌, ◌-◌, ◌<◌, ◌≤◌, Bool, true, false, not, List, [], ◌∷◌}
-use Rattle.std.proofs.Common.{◌++◌, length, take, get_or, filter, refl, sym, ap, ◌∙◌, subst, arith, Option}
-use Rattle.std.proofs.Common.{Some, None, option_to_list, inl, inr, append_assoc, append-nil}
+use Rattle.std.proofs.Common.{◌≡◌, ℕ, zero, suc, ◌+◌, ◌-◌, ◌<◌, ◌≤◌, Bool, true, false, not, List, [], ◌∷◌, ◌++◌, length, take, get_or, filter, refl, sym, ap, ◌∙◌, subst, arith, Option, Some, None, option_to_list, inl, inr, append_assoc, append-nil}
 use Rattle.std.specs.Prelude.{codes, if◌then◌else◌}
 use Rattle.std.specs.List.{AllByRecursion}
 use Rattle.std.specs.Option.{is_some}
 use Rattle.std.specs.declared.cmp.Ordering.TheVariants.{Less}
-use Rattle.iloc_spec_grammar.specs.Syntax.{Text, Identifier, identifier_pieces, languages, is_word}
-use Rattle.iloc_spec_grammar.specs.Syntax.{lower, word_cmp, is_same}
+use Rattle.iloc_spec_grammar.specs.Syntax.{Text, Identifier, identifier_pieces, languages, is_word, lower, word_cmp, is_same}
 use Rattle.iloc_spec_grammar.specs.Values.{StrictlyAscends, IsIdentifierValue}
 use Rattle.iloc_spec_grammar.proofs.MapLaws.{word_cmp_total, same_itself, same_is}
 use Rattle.iloc_langid.specs.Unknown.{unknown_identifier}
-use Rattle.iloc_langid.specs.Parents.{but_last, is_unknown_language, parent_of, part_count, after_steps}
-use Rattle.iloc_langid.specs.Parents.{LacksLastPart}
+use Rattle.iloc_langid.specs.Parents.{but_last, is_unknown_language, parent_of, part_count, after_steps, LacksLastPart}
 
 -- the last of an ascending list
 

@@ -1,29 +1,19 @@
 -- Identifiers with at most one variant, read from the left.
-use Rattle.std.proofs.Common.{◌≡◌, ◌≢◌, ◌≤◌, Bool, List, [], ◌∷◌, ◌++◌, length, map, refl, sym, ap, ◌∙◌}
-use Rattle.std.proofs.Common.{subst, arith, append-nil, Option, option_map, Result, Ok, Err, IfOk}
+use Rattle.std.proofs.Common.{◌≡◌, ◌≢◌, ◌≤◌, Bool, List, [], ◌∷◌, ◌++◌, length, map, refl, sym, ap, ◌∙◌, subst, arith, append-nil, Option, option_map, Result, Ok, Err, IfOk}
 use Rattle.std.specs.List.{AllByRecursion}
-use Rattle.iloc_spec_grammar.specs.Syntax.{Text, Language, Script, Region, Variant, is_word, IsWord, lower}
-use Rattle.iloc_spec_grammar.specs.Syntax.{title, upper, languages, SpelledIdentifier, HasWords}
-use Rattle.iloc_spec_grammar.specs.Syntax.{identifier_pieces, first_piece}
-use Rattle.iloc_spec_grammar.specs.Reading.{first_item, take_first, skip_first, passing, past, rest_of}
-use Rattle.iloc_spec_grammar.specs.Reading.{after_script, after_region, front_of, after_front}
-use Rattle.iloc_spec_grammar.proofs.ReadingLaws.{all_while, pieces-front_of, front_words, front_of-pieces}
-use Rattle.iloc_spec_grammar.proofs.ReadingLaws.{after_front-pieces}
-use Rattle.iloc_spec_parts.specs.Small.{SmallIdentifier, IsSmallIdentifier, HasSmallIdentifierFault}
-use Rattle.iloc_spec_parts.specs.Small.{no_language, no_identifier, identifier_of_small}
+use Rattle.iloc_spec_grammar.specs.Syntax.{Text, Language, Script, Region, Variant, is_word, IsWord, lower, title, upper, languages, SpelledIdentifier, HasWords, identifier_pieces, first_piece}
+use Rattle.iloc_spec_grammar.specs.Reading.{first_item, take_first, skip_first, passing, past, rest_of, after_script, after_region, front_of, after_front}
+use Rattle.iloc_spec_grammar.proofs.ReadingLaws.{all_while, pieces-front_of, front_words, front_of-pieces, after_front-pieces}
+use Rattle.iloc_spec_parts.specs.Small.{SmallIdentifier, IsSmallIdentifier, HasSmallIdentifierFault, no_language, no_identifier, identifier_of_small}
 use Rattle.iloc_subtags.specs.declared.parse_error.ParseError.{ParseError}
-use Rattle.iloc_subtags.specs.declared.parse_error.ParseError.TheVariants.{InvalidLanguage, InvalidSubtag}
-use Rattle.iloc_subtags.specs.declared.parse_error.ParseError.TheVariants.{InvalidExtension}
-use Rattle.iloc_subtags.specs.declared.parse_error.ParseError.TheVariants.{DuplicatedExtension, OutOfMemory}
+use Rattle.iloc_subtags.specs.declared.parse_error.ParseError.TheVariants.{InvalidLanguage, InvalidSubtag, InvalidExtension, DuplicatedExtension, OutOfMemory}
 use Rattle.iloc_langid.specs.declared.plain.PlainParts.{PlainParts}
 use Rattle.iloc_langid.specs.PlainReads.{IsPlainFront}
-use Rattle.iloc_langid.specs.SmallReads.{Parts, small_of, SmallReads, front_parts, after_parts}
-use Rattle.iloc_langid.specs.SmallReads.{SmallFrontReads}
+use Rattle.iloc_langid.specs.SmallReads.{Parts, small_of, SmallReads, front_parts, after_parts, SmallFrontReads}
 use Rattle.iloc_langid.proofs.FrontLemmas.{no_language as no_parts}
 use Rattle.iloc_spec_parts.specs.SmallComputing.{small_identifier}
 use Rattle.iloc_spec_parts.proofs.SmallShapes.{small_identifier_of, one_variant}
-use Rattle.iloc_spec_parts.proofs.SmallLaws.{short_different, one_small_identifier}
-use Rattle.iloc_spec_parts.proofs.SmallLaws.{small_identifier_apart, one_small_identifier_fault}
+use Rattle.iloc_spec_parts.proofs.SmallLaws.{short_different, one_small_identifier, small_identifier_apart, one_small_identifier_fault}
 use Rattle.iloc_spec_grammar.specs.Meaning.{Fault, IdentifierMeans}
 use Rattle.iloc_subtags.specs.Judging.{Accepts, Refuses}
 use Rattle.iloc_subtags.proofs.Judged.{Judges, accepts, refuses}

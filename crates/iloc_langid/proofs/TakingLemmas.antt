@@ -1,17 +1,12 @@
 -- Variants that are taken one at a time.
 use Rattle.iloc_spec_grammar.proofs.FaultLaws.{some_repeat}
-use Rattle.std.proofs.Common.{◌≡◌, ℕ, ◌+◌, ◌<◌, ◌≤◌, Bool, true, false, not, List, [], ◌∷◌, ◌++◌, length}
-use Rattle.std.proofs.Common.{map, refl, sym, ap, ◌∙◌, subst, arith, append_assoc, append-nil}
-use Rattle.std.proofs.Common.{length-append, Some, None, option_map}
+use Rattle.std.proofs.Common.{◌≡◌, ℕ, ◌+◌, ◌<◌, ◌≤◌, Bool, true, false, not, List, [], ◌∷◌, ◌++◌, length, map, refl, sym, ap, ◌∙◌, subst, arith, append_assoc, append-nil, length-append, Some, None, option_map}
 use Rattle.std.specs.Prelude.{Result, Ok, Err}
 use Rattle.std.specs.List.{AllByRecursion, list_any}
 use Rattle.std.specs.List.Sorted.{IsPermutation}
 use Rattle.std.proofs.lemmas.List.{map-append, length-map}
-use Rattle.std.proofs.lemmas.List.Sorted.{IsPermutation-refl, IsPermutation-sym, IsPermutation-push_more}
-use Rattle.std.proofs.lemmas.List.Sorted.{IsPermutation-append_left, length_permutation}
-use Rattle.std.proofs.lemmas.List.Sorted.{list_any-IsPermutation}
-use Rattle.iloc_spec_grammar.specs.Syntax.{Text, Variant, is_word, IsWord, normal, lower, word_cmp, is_same}
-use Rattle.iloc_spec_grammar.specs.Syntax.{AllDifferent}
+use Rattle.std.proofs.lemmas.List.Sorted.{IsPermutation-refl, IsPermutation-sym, IsPermutation-push_more, IsPermutation-append_left, length_permutation, list_any-IsPermutation}
+use Rattle.iloc_spec_grammar.specs.Syntax.{Text, Variant, is_word, IsWord, normal, lower, word_cmp, is_same, AllDifferent}
 use Rattle.iloc_spec_grammar.specs.Meaning.{set_of}
 use Rattle.iloc_spec_grammar.specs.Values.{IsNormal, StrictlyAscends}
 use Rattle.iloc_spec_grammar.specs.Reading.{EndsBefore, take_first, skip_first, passing, past}
@@ -24,9 +19,7 @@ use Rattle.iloc_spec_grammar.proofs.WellRead.{set_of-ascending, all-set_of}
 use Rattle.iloc_subtags.proofs.TakingLemmas.{took, took_none}
 use Rattle.iloc_word_list.proofs.CollectorLaws.{permuted_set, differ, taken_in, known_there, one_more}
 use Rattle.iloc_subtags.specs.declared.parse_error.ParseError.{ParseError}
-use Rattle.iloc_subtags.specs.declared.parse_error.ParseError.TheVariants.{InvalidLanguage, InvalidSubtag}
-use Rattle.iloc_subtags.specs.declared.parse_error.ParseError.TheVariants.{InvalidExtension}
-use Rattle.iloc_subtags.specs.declared.parse_error.ParseError.TheVariants.{DuplicatedExtension, OutOfMemory}
+use Rattle.iloc_subtags.specs.declared.parse_error.ParseError.TheVariants.{InvalidLanguage, InvalidSubtag, InvalidExtension, DuplicatedExtension, OutOfMemory}
 use Rattle.iloc_langid.specs.Reads.{VariantsReads}
 use Rattle.iloc_langid.proofs.LowercaseLemmas.{lower-variants}
 

@@ -1,7 +1,6 @@
 -- Entries put in one by one make the map of them, where the last of equal keys stays; added one by one, where
 -- the first does.
-use Rattle.std.proofs.Common.{◌≡◌, Bool, true, false, true≢false, cond, List, [], ◌∷◌, ◌++◌, reverse}
-use Rattle.std.proofs.Common.{suc, ◌+◌, ◌≤◌, length, arith, Option, Some, None, is_some, refl, sym, ap, ap₂, ◌∙◌, append_assoc}
+use Rattle.std.proofs.Common.{◌≡◌, Bool, true, false, true≢false, cond, List, [], ◌∷◌, ◌++◌, reverse, suc, ◌+◌, ◌≤◌, length, arith, Option, Some, None, is_some, refl, sym, ap, ap₂, ◌∙◌, append_assoc}
 use Rattle.std.specs.declared.cmp.Ordering.{Ordering}
 use Rattle.std.specs.declared.cmp.Ordering.TheVariants.{Less, Equal, Greater}
 use Rattle.std.specs.Cmp.{IsTotalOrder, Equal-is}

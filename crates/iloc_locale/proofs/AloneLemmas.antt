@@ -1,39 +1,17 @@
 -- An identifier without extensions.
-use Rattle.std.proofs.Common.{◌≡◌, ◌↔◌, ℕ, ◌<◌, true, cond, List, [], ◌∷◌, length, map, filter, Option}
-use Rattle.std.proofs.Common.{Some, None, option_map, refl, sym, ap, ◌∙◌, subst}
+use Rattle.std.proofs.Common.{◌≡◌, ◌↔◌, ℕ, ◌<◌, true, cond, List, [], ◌∷◌, length, map, filter, Option, Some, None, option_map, refl, sym, ap, ◌∙◌, subst}
 use Rattle.std.specs.List.{AllByRecursion}
 use Rattle.std.specs.Char.{is_ascii_alphanumeric}
 use Rattle.std.specs.Ordering.{nat_cmp}
 use Rattle.std.specs.Cmp.{nat_cmp_total}
 use Rattle.std.proofs.lemmas.Bool.{eq-eqb}
-use Rattle.iloc_spec_grammar.specs.Syntax.{Block, Fields, Identifier, Spelled, SpelledIdentifier}
-use Rattle.iloc_spec_grammar.specs.Syntax.{SpelledTransform, SpelledUnicode, Transform, Unicode, head}
-use Rattle.iloc_spec_grammar.specs.Syntax.{is_other_singleton, kept, languages, lower, lower_singleton}
-use Rattle.iloc_spec_grammar.specs.Syntax.{pieces, tail_blocks, transform_pieces, unicode_pieces, word_cmp}
-use Rattle.iloc_spec_grammar.specs.Syntax.{fields_pieces}
-use Rattle.iloc_spec_grammar.specs.Meaning.{
-  BlocksMean,
-  Extensions,
-  IdentifierMeans,
-  Means,
-  SpelledExtensions,
-  after,
-  map_of,
-  no_extensions,
-  no_transform,
-  no_unicode,
-  normal_identifier,
-  normal_transform,
-  normal_unicode,
-  set_of,
-}
+use Rattle.iloc_spec_grammar.specs.Syntax.{Block, Fields, Identifier, Spelled, SpelledIdentifier, SpelledTransform, SpelledUnicode, Transform, Unicode, head, is_other_singleton, kept, languages, lower, lower_singleton, pieces, tail_blocks, transform_pieces, unicode_pieces, word_cmp, fields_pieces, code_x, code_u, code_t, Text}
+use Rattle.iloc_spec_grammar.specs.Meaning.{BlocksMean, Extensions, IdentifierMeans, Means, SpelledExtensions, after, map_of, no_extensions, no_transform, no_unicode, normal_identifier, normal_transform, normal_unicode, set_of}
 use Rattle.iloc_spec_grammar.specs.Values.{text, identifier_text}
 use Rattle.iloc_spec_grammar.proofs.MapLaws.{word_cmp_total}
 use Rattle.iloc_spec_grammar.proofs.Singletons.{IsKind, of_u, of_t, of_x, another, kind_of, lower_letter}
-use Rattle.iloc_spec_parts.proofs.SmallShapes.{none_there, none_mapped, no_normal_fields, nothing_here}
-use Rattle.iloc_spec_parts.proofs.SmallShapes.{none_of_both}
+use Rattle.iloc_spec_parts.proofs.SmallShapes.{none_there, none_mapped, no_normal_fields, nothing_here, none_of_both}
 use Rattle.iloc_normalize.proofs.PlainAnswers as alone
-use Rattle.iloc_spec_grammar.specs.Syntax.{code_x, code_u, code_t, Text}
 use Rattle.iloc_langid.proofs.BlockLemmas.{front_all}
 
 -- the text of an identifier alone

@@ -1,11 +1,8 @@
 -- A language alone: its text is the language, and no other extension is there.
-use Rattle.std.proofs.Common.{◌≡◌, ◌↔◌, List, [], ◌∷◌, ◌++◌, length, map, Option, Some, None}
-use Rattle.std.proofs.Common.{option_to_list, refl, sym, ap, ◌∙◌, subst, arith, length-append, append-nil}
-use Rattle.iloc_spec_grammar.specs.Syntax.{Block, Fields, Identifier, Transform, Unicode, Text, code_x, join}
-use Rattle.iloc_spec_grammar.specs.Syntax.{dashes, lower, unicode_pieces, optional_pieces, fields_pieces}
+use Rattle.std.proofs.Common.{◌≡◌, ◌↔◌, List, [], ◌∷◌, ◌++◌, length, map, Option, Some, None, option_to_list, refl, sym, ap, ◌∙◌, subst, arith, length-append, append-nil}
+use Rattle.iloc_spec_grammar.specs.Syntax.{Block, Fields, Identifier, Transform, Unicode, Text, code_x, join, dashes, lower, unicode_pieces, optional_pieces, fields_pieces}
 use Rattle.iloc_spec_grammar.specs.Meaning.{Extensions, no_extensions}
-use Rattle.iloc_spec_grammar.specs.Values.{text, extensions_spelling, printed_pieces, transform_block}
-use Rattle.iloc_spec_grammar.specs.Values.{spelled_fields, identifier_text}
+use Rattle.iloc_spec_grammar.specs.Values.{text, extensions_spelling, printed_pieces, transform_block, spelled_fields, identifier_text}
 use Rattle.iloc_spec_grammar.proofs.PartTexts.{join-dashes}
 use Rattle.iloc_spec_parts.proofs.SmallShapes.{none_mapped, none_of_both}
 use Rattle.iloc_langid.specs.Reads as langid

@@ -1,6 +1,5 @@
 -- From the locale that was read to its normal text.
-use Rattle.std.proofs.Common.{◌≡◌, inl, inr, ◌↔◌, IsTrue, ◌≤◌, Bool, true, false, length, refl, sym}
-use Rattle.std.proofs.Common.{ap, ◌∙◌, subst, true≢false, IfOk, Err, Ok, Result}
+use Rattle.std.proofs.Common.{◌≡◌, inl, inr, ◌↔◌, IsTrue, ◌≤◌, Bool, true, false, length, refl, sym, ap, ◌∙◌, subst, true≢false, IfOk, Err, Ok, Result}
 use Rattle.iloc_spec_grammar.specs.Syntax.{Text, languages, is_same}
 use Rattle.iloc_spec_grammar.specs.Meaning as meaning
 use Rattle.iloc_spec_grammar.specs.Meaning.{Means}
@@ -15,15 +14,12 @@ use Rattle.iloc_spec_grammar.proofs.RawLaws.{languages_table}
 use Rattle.iloc_spec_grammar.proofs.Corollaries.{same_meaning, means_again, same_text_same_value}
 use Rattle.iloc_spec_grammar.proofs.AnySteps.{chain_to_text, shortest, texts_lead_to_one}
 use Rattle.iloc_subtags.specs.declared.parse_error.ParseError.{ParseError}
-use Rattle.iloc_subtags.specs.declared.parse_error.ParseError.TheVariants.{InvalidLanguage, InvalidSubtag}
-use Rattle.iloc_subtags.specs.declared.parse_error.ParseError.TheVariants.{InvalidExtension}
-use Rattle.iloc_subtags.specs.declared.parse_error.ParseError.TheVariants.{DuplicatedExtension, OutOfMemory}
+use Rattle.iloc_subtags.specs.declared.parse_error.ParseError.TheVariants.{InvalidLanguage, InvalidSubtag, InvalidExtension, DuplicatedExtension, OutOfMemory}
 use Rattle.iloc_normalize.specs.Modes.{IsNormalText}
 use Rattle.iloc_normalize.specs.NormalTexts.{IsNotNormal}
 use Rattle.iloc_normalize.specs.Answered.{HasRefusal}
 use Rattle.iloc_normalize.specs.declared.Mode.TheVariants.{Locale}
-use Rattle.iloc_locale.specs.LocaleReading.{LocaleTextReads, MeansOnly, IsTextOf, IsNormalizedLocale}
-use Rattle.iloc_locale.specs.LocaleReading.{NormalizingWantsMemory}
+use Rattle.iloc_locale.specs.LocaleReading.{LocaleTextReads, MeansOnly, IsTextOf, IsNormalizedLocale, NormalizingWantsMemory}
 use Rattle.iloc_locale.proofs.ReadLemmas.{inline_wants_none}
 use Rattle.iloc_spec_parts.specs.Inline.{IsInline}
 use Rattle.std.specs.Cmp.{Equal-is}

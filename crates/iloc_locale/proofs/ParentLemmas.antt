@@ -1,6 +1,5 @@
 -- The fallback chain of locales, from that of identifiers.
-use Rattle.std.proofs.Common.{◌≡◌, ◌≢◌, ◌↔◌, inl, inr, ℕ, zero, suc, Option, Some, None}
-use Rattle.std.proofs.Common.{refl, sym, ap, ◌∙◌, subst}
+use Rattle.std.proofs.Common.{◌≡◌, ◌≢◌, ◌↔◌, inl, inr, ℕ, zero, suc, Option, Some, None, refl, sym, ap, ◌∙◌, subst}
 use Rattle.std.specs.Prelude.{option_map, option_and_then}
 use Rattle.iloc_spec_grammar.specs.Syntax.{Identifier}
 use Rattle.iloc_spec_grammar.specs.Meaning.{Locale, no_extensions, without_extensions}

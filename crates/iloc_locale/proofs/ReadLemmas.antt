@@ -1,13 +1,10 @@
 -- From what the readers of the head and of the blocks answer to what the whole text is read as.
 use Rattle.std.specs.Prelude.{⊤}
-use Rattle.std.proofs.Common.{◌≡◌, inl, inr, ℕ, ◌<◌, true, List, [], ◌∷◌, length, refl, sym, ap, ◌∙◌, subst}
-use Rattle.std.proofs.Common.{arith, Result, Ok, Err, IfOk}
+use Rattle.std.proofs.Common.{◌≡◌, inl, inr, ℕ, ◌<◌, true, List, [], ◌∷◌, length, refl, sym, ap, ◌∙◌, subst, arith, Result, Ok, Err, IfOk}
 use Rattle.std.specs.Result.{result_and}
-use Rattle.iloc_spec_grammar.specs.Syntax.{Text, pieces, Language, IsWord, languages, two_or_three}
-use Rattle.iloc_spec_grammar.specs.Syntax.{identifier_pieces, head, blocks, tail_blocks, first_piece}
+use Rattle.iloc_spec_grammar.specs.Syntax.{Text, pieces, Language, IsWord, languages, two_or_three, identifier_pieces, head, blocks, tail_blocks, first_piece}
 use Rattle.iloc_spec_grammar.specs.Meaning as meaning
-use Rattle.iloc_spec_grammar.specs.Meaning.{IdentifierMeans, Means, BlocksMean, Fault, HasFault}
-use Rattle.iloc_spec_grammar.specs.Meaning.{HasBlockFault, in_head, in_block, SpellsIdentifier}
+use Rattle.iloc_spec_grammar.specs.Meaning.{IdentifierMeans, Means, BlocksMean, Fault, HasFault, HasBlockFault, in_head, in_block, SpellsIdentifier}
 use Rattle.iloc_spec_grammar.specs.Values.{IsWellFormed, TextStep, Leads}
 use Rattle.iloc_spec_grammar.specs.Reading.{rest_of, front_of, after_head, starts_block}
 use Rattle.iloc_spec_grammar.proofs.RawLaws.{languages_table}
@@ -20,9 +17,7 @@ use Rattle.iloc_spec_grammar.proofs.ReadingLaws.{from_block_starts, front_of-pie
 use Rattle.iloc_spec_parts.specs.Inline.{IsInline, ReachesLongBlock}
 use Rattle.iloc_spec_parts.proofs.InlineBlockLaws.{inline_by_blocks, none_long}
 use Rattle.iloc_subtags.specs.declared.parse_error.ParseError.{ParseError}
-use Rattle.iloc_subtags.specs.declared.parse_error.ParseError.TheVariants.{InvalidLanguage, InvalidSubtag}
-use Rattle.iloc_subtags.specs.declared.parse_error.ParseError.TheVariants.{InvalidExtension}
-use Rattle.iloc_subtags.specs.declared.parse_error.ParseError.TheVariants.{DuplicatedExtension, OutOfMemory}
+use Rattle.iloc_subtags.specs.declared.parse_error.ParseError.TheVariants.{InvalidLanguage, InvalidSubtag, InvalidExtension, DuplicatedExtension, OutOfMemory}
 use Rattle.iloc_langid.specs.declared.identifier.LanguageIdentifier.{LanguageIdentifier}
 use Rattle.iloc_langid.specs.Reads as langid
 use Rattle.iloc_langid.specs.Reads.{IdentifierReads}
@@ -34,8 +29,7 @@ use Rattle.iloc_normalize.proofs.FrontAnswers.{no_language_refused}
 use Rattle.iloc_normalize.proofs.PlainAnswers.{means_alone}
 use Rattle.iloc_extensions.proofs.RoundLaws.{blocks-from_block}
 use Rattle.iloc_locale.specs.declared.locale.Locale.{Locale}
-use Rattle.iloc_locale.specs.LocaleReading.{value_of, unknown_locale, LocaleWantsMemory, LocaleTextReads}
-use Rattle.iloc_locale.specs.LocaleReading.{LocaleTextAnswers}
+use Rattle.iloc_locale.specs.LocaleReading.{value_of, unknown_locale, LocaleWantsMemory, LocaleTextReads, LocaleTextAnswers}
 use Rattle.iloc_subtags.specs.Judging.{Accepts, Refuses, RunsOutOnlyIf}
 use Rattle.iloc_subtags.proofs.Judged.{Judges, accepts, refuses, without_memory, runs_out, with_memory}
 

@@ -159,7 +159,7 @@ other_tells = both_tell byte_tells words_tell
 pub extensions_tell : Tells extensions_fed
 extensions_tell = through {Y = ((Unicode × Transform) × List Text) × List Block}
     (λ e. (((e.unicode, e.transform), e.private), e.others))
-    (λ p. search)
+    (λ p. record { unicode = p.0.0.0; transform = p.0.0.1; private = p.0.1; others = p.1 })
     (λ e. refl)
     (both_tell (both_tell (both_tell unicode_tells transform_tells) words_tell) (list_tells other_tells))
 

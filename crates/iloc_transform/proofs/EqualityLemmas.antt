@@ -1,6 +1,5 @@
 -- `==` at identifiers and transforms decides whether they stand for the same.
-use Rattle.std.proofs.Common.{◌≡◌, Bool, ◌&&◌, Option, Some, None, nat_eq, refl, sym, ap, option_map}
-use Rattle.std.proofs.Common.{true≢false}
+use Rattle.std.proofs.Common.{◌≡◌, Bool, ◌&&◌, Option, Some, None, nat_eq, refl, sym, ap, option_map, true≢false}
 use Rattle.std.specs.Option.{option_eq}
 use Rattle.std.specs.Bool.{Decides}
 use Rattle.std.proofs.lemmas.Bool.Decides.{Decides-and, Decides-like}

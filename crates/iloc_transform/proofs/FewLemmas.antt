@@ -1,10 +1,7 @@
 -- A transform of few words takes no memory.
-use Rattle.std.proofs.Common.{◌≡◌, ◌<◌, ◌≤◌, List, [], ◌∷◌, ◌++◌, length, map, refl, sym, ap, ◌∙◌, subst}
-use Rattle.std.proofs.Common.{arith, Option, IfSome, option_map, true≢false}
+use Rattle.std.proofs.Common.{◌≡◌, ◌<◌, ◌≤◌, List, [], ◌∷◌, ◌++◌, length, map, refl, sym, ap, ◌∙◌, subst, arith, Option, IfSome, option_map, true≢false}
 use Rattle.std.proofs.lemmas.List.{length-map}
-use Rattle.iloc_spec_grammar.specs.Syntax.{Text, Language, IsWord, lower, languages, SpelledIdentifier}
-use Rattle.iloc_spec_grammar.specs.Syntax.{Identifier}
-use Rattle.iloc_spec_grammar.specs.Syntax.{identifier_pieces, fields_pieces}
+use Rattle.iloc_spec_grammar.specs.Syntax.{Text, Language, IsWord, lower, languages, SpelledIdentifier, Identifier, identifier_pieces, fields_pieces}
 use Rattle.iloc_spec_grammar.specs.Syntax as written
 use Rattle.iloc_spec_grammar.specs.Meaning.{normal_identifier, front, first_piece}
 use Rattle.iloc_spec_grammar.specs.Reading.{IdentifierFront, from_block}

@@ -1,28 +1,21 @@
 -- Fields that are taken one at a time.
-use Rattle.std.proofs.Common.{◌≡◌, suc, ◌+◌, ◌<◌, ◌≤◌, Bool, true, false, cond, ◌&&◌, List, [], ◌∷◌, ◌++◌, length}
-use Rattle.std.proofs.Common.{map, refl, sym, ap, ◌∙◌, arith, append_assoc, append-nil, Some}
-use Rattle.std.proofs.Common.{option_map, is_some, if◌then◌else◌, Err}
+use Rattle.std.proofs.Common.{◌≡◌, suc, ◌+◌, ◌<◌, ◌≤◌, Bool, true, false, cond, ◌&&◌, List, [], ◌∷◌, ◌++◌, length, map, refl, sym, ap, ◌∙◌, arith, append_assoc, append-nil, Some, option_map, is_some, if◌then◌else◌, Err}
 use Rattle.std.specs.List.{AllByRecursion, list_all}
 use Rattle.std.specs.FinMap.{find, put}
 use Rattle.std.specs.FinMap.Entries.{by_order}
 use Rattle.std.specs.declared.cmp.Ordering.TheVariants.{Less, Equal, Greater}
 use Rattle.std.proofs.lemmas.List.{map-append}
-use Rattle.iloc_spec_grammar.specs.Syntax.{Text, TransformKey, Attribute, is_word, IsWord, lower, word_cmp}
-use Rattle.iloc_spec_grammar.specs.Syntax.{Fields}
-use Rattle.iloc_spec_grammar.specs.Syntax.{fields_pieces, IsField}
+use Rattle.iloc_spec_grammar.specs.Syntax.{Text, TransformKey, Attribute, is_word, IsWord, lower, word_cmp, Fields, fields_pieces, IsField}
 use Rattle.iloc_spec_grammar.specs.Meaning.{map_of, normal_fields, normal_values}
 use Rattle.iloc_spec_grammar.specs.Reading.{take_first, skip_first, passing, past, before_key, fields_from}
 use Rattle.iloc_spec_grammar.proofs.MapLaws.{word_cmp_total, same_words}
-use Rattle.iloc_spec_parts.specs.Fronts.{is_field_piece, fields_front, after_fields, BeginsField, fields_at}
+use Rattle.iloc_spec_parts.specs.Fronts.{is_field_piece, fields_front, after_fields, BeginsField, fields_at, attributes_front}
 use Rattle.iloc_spec_parts.proofs.KeptLaws.{begins_field}
 use Rattle.iloc_spec_grammar.specs.Computing.{is_field}
 use Rattle.iloc_litemap.proofs.Maps.{map_of_more}
 use Rattle.iloc_subtags.proofs.TakingLemmas.{took}
 use Rattle.iloc_subtags.specs.declared.parse_error.ParseError.{ParseError}
-use Rattle.iloc_subtags.specs.declared.parse_error.ParseError.TheVariants.{InvalidLanguage, InvalidSubtag}
-use Rattle.iloc_subtags.specs.declared.parse_error.ParseError.TheVariants.{InvalidExtension}
-use Rattle.iloc_subtags.specs.declared.parse_error.ParseError.TheVariants.{DuplicatedExtension, OutOfMemory}
-use Rattle.iloc_spec_parts.specs.Fronts.{attributes_front}
+use Rattle.iloc_subtags.specs.declared.parse_error.ParseError.TheVariants.{InvalidLanguage, InvalidSubtag, InvalidExtension, DuplicatedExtension, OutOfMemory}
 use Rattle.iloc_transform.specs.ValueReading.{FieldValueReads}
 use Rattle.iloc_transform.specs.FieldsReading.{FieldsFills}
 use Rattle.iloc_transform.proofs.RoomLemmas.{values_short}

@@ -1,6 +1,5 @@
 -- A map as its list of pairs: what is inserted or kept holds what was there.
-use Rattle.std.proofs.Common.{◌≡◌, Bool, true, false, cond, List, [], ◌∷◌, is_some, Result, Ok, Err, OnOk}
-use Rattle.std.proofs.Common.{OnErr}
+use Rattle.std.proofs.Common.{◌≡◌, Bool, true, false, cond, List, [], ◌∷◌, is_some, Result, Ok, Err, OnOk, OnErr}
 use Rattle.std.specs.FinMap.{put, find}
 use Rattle.std.specs.List.{AllByRecursion, items_where_true}
 use Rattle.iloc_spec_grammar.specs.Syntax.{Text, word_cmp, Fields, TransformKey}

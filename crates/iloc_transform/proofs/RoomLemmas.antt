@@ -1,19 +1,15 @@
 -- How much room is asked for at most.
-use Rattle.std.proofs.Common.{◌≡◌, ◌≤◌, false, not, List, [], length, map, refl, sym, ap, subst, arith}
-use Rattle.std.proofs.Common.{length-append, Option, Err, ℕ}
+use Rattle.std.proofs.Common.{◌≡◌, ◌≤◌, false, not, List, [], length, map, refl, sym, ap, subst, arith, length-append, Option, Err, ℕ}
 use Rattle.std.proofs.lemmas.List.{length-map}
 use Rattle.std.proofs.lemmas.List.Sums.{length-filter, count_by-le-length}
-use Rattle.iloc_spec_grammar.specs.Syntax.{Text, pieces, Attribute, is_word, is_true, lower, languages}
-use Rattle.iloc_spec_grammar.specs.Syntax.{SpelledIdentifier, identifier_pieces}
+use Rattle.iloc_spec_grammar.specs.Syntax.{Text, pieces, Attribute, is_word, is_true, lower, languages, SpelledIdentifier, identifier_pieces}
 use Rattle.iloc_spec_grammar.specs.Meaning.{normal_values}
 use Rattle.iloc_spec_parts.specs.Fronts.{attributes_front, FrontRead, absent, present}
 use Rattle.iloc_spec_parts.proofs.KeptLaws.{passing_short}
 use Rattle.iloc_memory.specs.Refusals.{RefusedWithin}
 use Rattle.iloc_memory.proofs.Within.{within_more}
 use Rattle.iloc_subtags.specs.declared.parse_error.ParseError.{ParseError}
-use Rattle.iloc_subtags.specs.declared.parse_error.ParseError.TheVariants.{InvalidLanguage, InvalidSubtag}
-use Rattle.iloc_subtags.specs.declared.parse_error.ParseError.TheVariants.{InvalidExtension}
-use Rattle.iloc_subtags.specs.declared.parse_error.ParseError.TheVariants.{DuplicatedExtension, OutOfMemory}
+use Rattle.iloc_subtags.specs.declared.parse_error.ParseError.TheVariants.{InvalidLanguage, InvalidSubtag, InvalidExtension, DuplicatedExtension, OutOfMemory}
 use Rattle.iloc_subtags.specs.Judging.{RunsOutOnlyIf}
 use Rattle.iloc_word_list.proofs.RoomLemmas.{words_fit}
 use Rattle.iloc_langid.specs.declared.identifier.LanguageIdentifier.{LanguageIdentifier}

@@ -1,11 +1,7 @@
 -- The pieces that a transform writes.
-use Rattle.std.proofs.Common.{◌≡◌, ℕ, Bool, true, false, not, cond, ◌&&◌, ◌||◌, ◌==◌, List, [], ◌∷◌, ◌++◌}
-use Rattle.std.proofs.Common.{length, nat_lt, refl, sym, ap, ◌∙◌, arith, Option, Some, None, option_map}
-use Rattle.std.proofs.Common.{is_some}
+use Rattle.std.proofs.Common.{◌≡◌, ℕ, Bool, true, false, not, cond, ◌&&◌, ◌||◌, ◌==◌, List, [], ◌∷◌, ◌++◌, length, nat_lt, refl, sym, ap, ◌∙◌, arith, Option, Some, None, option_map, is_some}
 use Rattle.std.proofs.lemmas.Bool.Decides.{nat_tests}
-use Rattle.iloc_spec_grammar.specs.Syntax.{code_t, Text, Fields, Spelled, Transform, fields_pieces}
-use Rattle.iloc_spec_grammar.specs.Syntax.{optional_pieces}
-use Rattle.iloc_spec_grammar.specs.Syntax.{transform_pieces}
+use Rattle.iloc_spec_grammar.specs.Syntax.{code_t, Text, Fields, Spelled, Transform, fields_pieces, optional_pieces, transform_pieces}
 use Rattle.iloc_spec_grammar.specs.Values.{lower_identifier, spelled_fields, transform_spelling}
 use Rattle.iloc_spec_grammar.proofs.PartTexts.{transform_spelling_is}
 use Rattle.iloc_langid.specs.Reads.{value_of}

@@ -1,42 +1,32 @@
 -- An identifier and fields, one after the other.
-use Rattle.std.proofs.Common.{◌≡◌, ◌≢◌, inl, inr, ℕ, ◌<◌, ◌==◌, true, false, not, cond, ◌&&◌, ◌||◌, List, []}
-use Rattle.std.proofs.Common.{◌∷◌, length, nat_lt, refl, sym, ap, ◌∙◌, subst, arith, Option, Some, None}
-use Rattle.std.proofs.Common.{option_map, is_some, Result, Ok, Err, true≢false}
+use Rattle.std.proofs.Common.{◌≡◌, ◌≢◌, inl, inr, ℕ, ◌<◌, ◌==◌, true, false, not, cond, ◌&&◌, ◌||◌, List, [], ◌∷◌, length, nat_lt, refl, sym, ap, ◌∙◌, subst, arith, Option, Some, None, option_map, is_some, Result, Ok, Err, true≢false}
 use Rattle.std.specs.List.{list_all}
 use Rattle.std.specs.FinMap.{put}
 use Rattle.std.specs.FinMap.Entries.{by_order}
 use Rattle.std.specs.declared.cmp.Ordering.TheVariants.{Less, Equal, Greater}
 use Rattle.std.proofs.lemmas.Bool.{and_parts, not-true}
 use Rattle.std.proofs.lemmas.Bool.Decides.{nat_tests}
-use Rattle.iloc_spec_grammar.specs.Syntax.{code_t, Text, pieces, Language, is_word, read, lower, languages}
-use Rattle.iloc_spec_grammar.specs.Syntax.{word_cmp}
-use Rattle.iloc_spec_grammar.specs.Syntax.{TransformKey}
+use Rattle.iloc_spec_grammar.specs.Syntax.{code_t, Text, pieces, Language, is_word, read, lower, languages, word_cmp, TransformKey}
 use Rattle.iloc_spec_grammar.specs.Syntax as written
-use Rattle.iloc_spec_grammar.specs.Meaning.{normal_identifier, normal_transform, normal_fields, normal_values}
-use Rattle.iloc_spec_grammar.specs.Meaning.{Fault}
+use Rattle.iloc_spec_grammar.specs.Meaning.{normal_identifier, normal_transform, normal_fields, normal_values, Fault}
 use Rattle.iloc_spec_grammar.specs.Meaning as faults
 use Rattle.iloc_spec_grammar.specs.Reading.{first_item, rest_of, fields_from}
 use Rattle.iloc_spec_grammar.specs.Computing.{is_field}
-use Rattle.iloc_spec_parts.specs.Fronts.{absent, present, after_fields, TransformRead, TransformFault}
-use Rattle.iloc_spec_parts.specs.Fronts.{repeats, fields_at, fields_result}
+use Rattle.iloc_spec_parts.specs.Fronts.{absent, present, after_fields, TransformRead, TransformFault, repeats, fields_at, fields_result}
 use Rattle.iloc_spec_parts.specs.Parts.{is_letter, TransformTextFault}
 use Rattle.iloc_spec_parts.proofs.TransformLaws.{fields_answer, IsTransformAnswer}
 use Rattle.iloc_other.specs.Singleton.{singleton_at}
 use Rattle.iloc_other.proofs.SingletonLemmas.{begins, part_reads, part_fault, part_other, part_none}
 use Rattle.iloc_other.proofs.TextLemmas.{another_letter}
 use Rattle.iloc_subtags.specs.declared.parse_error.ParseError.{ParseError}
-use Rattle.iloc_subtags.specs.declared.parse_error.ParseError.TheVariants.{InvalidLanguage, InvalidSubtag}
-use Rattle.iloc_subtags.specs.declared.parse_error.ParseError.TheVariants.{InvalidExtension}
-use Rattle.iloc_subtags.specs.declared.parse_error.ParseError.TheVariants.{DuplicatedExtension, OutOfMemory}
+use Rattle.iloc_subtags.specs.declared.parse_error.ParseError.TheVariants.{InvalidLanguage, InvalidSubtag, InvalidExtension, DuplicatedExtension, OutOfMemory}
 use Rattle.iloc_langid.specs.Reads.{FrontReads}
 use Rattle.iloc_langid.specs.Reads as langid
 use Rattle.iloc_langid.specs.declared.identifier.LanguageIdentifier.{LanguageIdentifier}
 use Rattle.iloc_transform.specs.FieldsReading.{FieldsRead, FieldsFills}
 use Rattle.iloc_transform.specs.LangReading.{LangRead, LangFills}
 use Rattle.iloc_subtags.specs.Judging.{RunsOutOnlyIf}
-use Rattle.iloc_transform.specs.TransformReading.{value_of, TransformWantsMemory, variants, fields}
-use Rattle.iloc_transform.specs.TransformReading.{TransformReads, TransformFills, TransformTextReads}
-use Rattle.iloc_transform.specs.TransformReading.{TransformTextWants}
+use Rattle.iloc_transform.specs.TransformReading.{value_of, TransformWantsMemory, variants, fields, TransformReads, TransformFills, TransformTextReads, TransformTextWants}
 use Rattle.iloc_transform.specs.declared.transform.Transform.{Transform}
 use Rattle.iloc_spec_grammar.proofs.ReadWords.{accepted_from_read, refused_from_read}
 use Rattle.iloc_langid.proofs.FrontLemmas.{no_empty_language}

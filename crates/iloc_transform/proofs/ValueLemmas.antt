@@ -1,18 +1,13 @@
 -- Subtags of a value that are taken one at a time.
-use Rattle.std.proofs.Common.{◌≡◌, suc, ◌+◌, ◌<◌, ◌≤◌, Bool, true, false, not, cond, List, [], ◌∷◌, ◌++◌}
-use Rattle.std.proofs.Common.{length, refl, sym, ap, ◌∙◌, subst, arith, length-append, option_map, Some, None}
-use Rattle.std.proofs.Common.{Ok, Err}
+use Rattle.std.proofs.Common.{◌≡◌, suc, ◌+◌, ◌<◌, ◌≤◌, Bool, true, false, not, cond, List, [], ◌∷◌, ◌++◌, length, refl, sym, ap, ◌∙◌, subst, arith, length-append, option_map, Some, None, Ok, Err}
 use Rattle.std.specs.List.{list_all}
 use Rattle.std.proofs.lemmas.Bool.{and_parts, false_from_ne_true}
 use Rattle.iloc_spec_grammar.specs.Syntax.{Text, pieces, Attribute, is_word, is_true, lower}
 use Rattle.iloc_spec_grammar.specs.Meaning.{normal_values}
-use Rattle.iloc_spec_grammar.specs.Reading.{passing, past, take_first, skip_first}
-use Rattle.iloc_spec_grammar.specs.Reading.{first_item}
+use Rattle.iloc_spec_grammar.specs.Reading.{passing, past, take_first, skip_first, first_item}
 use Rattle.iloc_spec_grammar.proofs.PiecesLaws.{pieces_nonempty}
 use Rattle.iloc_subtags.specs.declared.parse_error.ParseError.{ParseError}
-use Rattle.iloc_subtags.specs.declared.parse_error.ParseError.TheVariants.{InvalidLanguage, InvalidSubtag}
-use Rattle.iloc_subtags.specs.declared.parse_error.ParseError.TheVariants.{InvalidExtension}
-use Rattle.iloc_subtags.specs.declared.parse_error.ParseError.TheVariants.{DuplicatedExtension, OutOfMemory}
+use Rattle.iloc_subtags.specs.declared.parse_error.ParseError.TheVariants.{InvalidLanguage, InvalidSubtag, InvalidExtension, DuplicatedExtension, OutOfMemory}
 use Rattle.iloc_subtags.specs.Judging.{Answers, RunsOutOnlyIf}
 use Rattle.iloc_subtags.proofs.TakingLemmas.{took}
 use Rattle.iloc_subtags.proofs.Judged.{without_memory, runs_out}

@@ -7,8 +7,7 @@ use Rattle.iloc_spec_grammar.proofs.ReadWords.{accepted_from_read, refused_from_
 use Rattle.iloc_spec_grammar.proofs.ValuesLaws.{ascending_different}
 use Rattle.iloc_word_list.proofs.SetLaws.{search_new}
 use Rattle.iloc_subtags.specs.Left.{left}
-use Rattle.iloc_langid.proofs.WalkLemmas.{are_found, none_found, other_found, one_found, no_variant}
-use Rattle.iloc_langid.proofs.WalkLemmas.{all_found}
+use Rattle.iloc_langid.proofs.WalkLemmas.{are_found, none_found, other_found, one_found, no_variant, all_found}
 use Rattle.iloc_langid.proofs.agreeing.has_block.Goals as goal
 
 pub loop-piece-init : goal.loop-piece-init

@@ -8,8 +8,7 @@ use Rattle.iloc_subtags.specs.Judging.{RunsOutOnlyIf}
 use Rattle.iloc_subtags.specs.Left.{left}
 use Rattle.iloc_word_list.proofs.RoomLemmas.{allows}
 use Rattle.iloc_langid.specs.Reads.{VariantsReads}
-use Rattle.iloc_langid.proofs.TakingLemmas.{few_known, few_new, few_more, few_many, few_old, few_done}
-use Rattle.iloc_langid.proofs.TakingLemmas.{takes_within}
+use Rattle.iloc_langid.proofs.TakingLemmas.{few_known, few_new, few_more, few_many, few_old, few_done, takes_within}
 use Rattle.iloc_langid.proofs.reader.add_variants.Goals as goal
 
 pub few-init : goal.few-init

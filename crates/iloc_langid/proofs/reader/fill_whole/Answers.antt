@@ -1,7 +1,6 @@
 use Rattle.std.proofs.lemmas.Result.{err_from_is_err_and}
 use Rattle.iloc_subtags.specs.Left.{left}
-use Rattle.iloc_langid.proofs.FrontLemmas.{refused_reads, refused_wants, whole_refuses, whole_gives}
-use Rattle.iloc_langid.proofs.FrontLemmas.{whole_more, peeked_none, peeked_some}
+use Rattle.iloc_langid.proofs.FrontLemmas.{refused_reads, refused_wants, whole_refuses, whole_gives, whole_more, peeked_none, peeked_some}
 use Rattle.iloc_langid.proofs.reader.fill_whole.Goals as goal
 
 pub returns-in_err-fill-clause-reads : goal.returns-in_err-fill-clause-reads

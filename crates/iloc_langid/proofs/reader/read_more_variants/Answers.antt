@@ -7,8 +7,7 @@ use Rattle.iloc_memory.proofs.Within.{within_more}
 use Rattle.iloc_subtags.specs.Left.{left}
 use Rattle.iloc_word_list.proofs.RoomLemmas.{allows}
 use Rattle.iloc_word_list.proofs.CollectorLaws.{known_there, one_more}
-use Rattle.iloc_langid.proofs.TakingLemmas.{Taking, taking_few, takes_new, takes_old, takes_much, more_done}
-use Rattle.iloc_langid.proofs.TakingLemmas.{more_twice, takes_within}
+use Rattle.iloc_langid.proofs.TakingLemmas.{Taking, taking_few, takes_new, takes_old, takes_much, more_done, more_twice, takes_within}
 use Rattle.iloc_langid.proofs.reader.read_more_variants.Goals as goal
 
 pub words-init : goal.words-init

@@ -2,8 +2,7 @@ use Rattle.std.proofs.Common.{sym, ◌∙◌}
 use Rattle.std.proofs.lemmas.Result.{err_from_is_err_and}
 use Rattle.iloc_subtags.specs.Left.{left}
 use Rattle.iloc_subtags.proofs.ByteLemmas.{byte_first, no_byte}
-use Rattle.iloc_langid.proofs.HeadLemmas.{front_refused, nothing_more, more_pieces, keyword_read}
-use Rattle.iloc_langid.proofs.HeadLemmas.{block_refused}
+use Rattle.iloc_langid.proofs.HeadLemmas.{front_refused, nothing_more, more_pieces, keyword_read, block_refused}
 use Rattle.iloc_langid.proofs.small_locale.read_small_pieces.Goals as goal
 
 pub returns-in_err-language : goal.returns-in_err-language

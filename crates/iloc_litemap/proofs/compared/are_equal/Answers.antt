@@ -1,6 +1,4 @@
-use Rattle.std.proofs.Common.{◌≡◌, ◌∙◌, ◌&&◌, Bool, true, false, ℕ, zero, suc, List, [], ◌∷◌, ◌<◌, length}
-use Rattle.std.proofs.Common.{drop, get_or}
-use Rattle.std.proofs.Common.{refl, sym, not, arith}
+use Rattle.std.proofs.Common.{◌≡◌, ◌∙◌, ◌&&◌, Bool, true, false, ℕ, zero, suc, List, [], ◌∷◌, ◌<◌, length, drop, get_or, refl, sym, not, arith}
 use Rattle.std.specs.Cmp.Lexicographic.{pointwise}
 use Rattle.iloc_litemap.proofs.compared.are_equal.Goals as goal
 use Rattle.iloc_litemap.proofs.compared.are_equal.Goals.{then-ne-via-then-ne, then-ne-via-else-ne+then-ne-2}

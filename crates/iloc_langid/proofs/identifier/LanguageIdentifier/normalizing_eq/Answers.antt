@@ -1,13 +1,11 @@
-use Rattle.std.proofs.Common.{◌≡◌, ◌∷◌, ◌∙◌, ◌==◌, ◌&&◌, Bool, true, false, not, length, sym, ap, refl}
-use Rattle.std.proofs.Common.{true≢false, eq-eqb}
+use Rattle.std.proofs.Common.{◌≡◌, ◌∷◌, ◌∙◌, ◌==◌, ◌&&◌, Bool, true, false, not, length, sym, ap, refl, true≢false, eq-eqb}
 use borrow.Author.Tests.{eqb-true}
 use Rattle.std.proofs.lemmas.Bool.{and_parts, and_from}
 use Rattle.std.specs.Cmp.Lexicographic.{same_text}
 use Rattle.iloc_spec_grammar.specs.Syntax.{pieces, Language, languages}
 use Rattle.iloc_subtags.specs.Left.{left}
 use Rattle.iloc_langid.specs.Agreeing.{are_all_among}
-use Rattle.iloc_langid.proofs.AgreeingLemmas.{same_option, other_option, script_is, region_is, variants_are}
-use Rattle.iloc_langid.proofs.AgreeingLemmas.{all_mean, are_these, these_are}
+use Rattle.iloc_langid.proofs.AgreeingLemmas.{same_option, other_option, script_is, region_is, variants_are, all_mean, are_these, these_are}
 use Rattle.iloc_langid.proofs.identifier.LanguageIdentifier.normalizing_eq.Goals as goal
 use Rattle.iloc_spec_grammar.proofs.ReadWords.{accepted_from_read}
 

@@ -9,12 +9,7 @@ use Rattle.iloc_normalize.specs.Modes.{IsNormalText}
 use Rattle.iloc_normalize.specs.Answered.{HasRefusal}
 use Rattle.iloc_normalize.specs.declared.Mode.TheVariants as modes
 use Rattle.iloc_locale.specs.LocaleReading.{value_of}
-use Rattle.iloc_locale.proofs.NormalLemmas.{
-  own_text_means,
-  other_text_differs,
-  normal_text_means,
-  faulty_differs,
-}
+use Rattle.iloc_locale.proofs.NormalLemmas.{own_text_means, other_text_differs, normal_text_means, faulty_differs}
 use Rattle.iloc_locale.proofs.locale.Locale.compare_outlined.Goals as goal
 
 apart : (o : Ordering) → is_ne o ≡ true → false ≡ is_eq o

@@ -7,9 +7,7 @@ use Rattle.iloc_langid.specs.declared.identifier.LanguageIdentifier.{LanguageIde
 use Rattle.iloc_extensions.specs.declared.extensions.Extensions.{Extensions}
 use Rattle.iloc_locale.specs.LocaleReading.{LocaleTextReads, LocaleWantsMemory}
 use Rattle.iloc_locale.specs.declared.locale.Locale.{Locale}
-use Rattle.iloc_locale.proofs.ReadLemmas.{no_language_read, reads_apart, reads_memory, reads_well_formed}
-use Rattle.iloc_locale.proofs.ReadLemmas.{reads_steps, reads_accepts, reads_refuses, reads_narrow}
-use Rattle.iloc_locale.proofs.ReadLemmas.{plain_means}
+use Rattle.iloc_locale.proofs.ReadLemmas.{no_language_read, reads_apart, reads_memory, reads_well_formed, reads_steps, reads_accepts, reads_refuses, reads_narrow, plain_means}
 use Rattle.iloc_locale.proofs.locale.Locale.try_from_str.Goals as goal
 
 -- each way out reads the text's bytes as the grammar says; the other clauses follow from that
