@@ -141,7 +141,7 @@ pub fn lengthen<M: Memory, T: Copy>(
         return Ok(());
     }
     memory.reserve(list, len - held)?;
-    let Ok(()) = list.resize_with(len, || item) else {
+    let Ok(()) = list.resize(len, item) else {
         unreachable!();
     };
     Ok(())
