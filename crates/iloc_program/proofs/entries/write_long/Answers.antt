@@ -23,4 +23,4 @@ returns c =
     ∙ ap (λ (t : Text). t ++ range_column f.start f.end) c.in_ok-extend_from_slice.ensures.ok)
     ∙ ap (λ (t : Text). ((old ++ words) ++ range_column f.start f.end) ++ shown t) (sym piece))
     ∙ one_by_one old words (range_column f.start f.end) (shown (faulty_piece (text_in c.args.line) f)))
-    c.push.ensures
+    c.push.ensures.ok

@@ -25,4 +25,4 @@ returns c =
     (ap (take c.short_range-range.result.1) c.to_le_bytes.ensures ∙ c.short_range-range.ensures.text)
     (ap (take (f.end - f.start)) c.as_array.ensures ∙ piece) in
     on_ok_weaker c.push_columns.result
-    (λ e. e ∙ ap (λ (t : Text). held c.args.replies.now ++ t) stands) c.push_columns.ensures
+    (λ e. e ∙ ap (λ (t : Text). held c.args.replies.now ++ t) stands) c.push_columns.ensures.ok

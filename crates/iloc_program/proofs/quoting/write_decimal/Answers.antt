@@ -9,11 +9,11 @@ pub returns-then-number-lt10 : goal.returns-then-number-lt10
 returns-then-number-lt10 c =
     let digits = one_digit c.args.number c.unit-digit.result (omega arith) c.unit-digit.ensures in
     on_ok_weaker c.push.result (λ e. e ∙ ap (λ (t : Text). held c.args.replies.now ++ t) (sym digits))
-    c.push.ensures
+    c.push.ensures.ok
 
 pub returns-then-number-lt100 : goal.returns-then-number-lt100
 returns-then-number-lt100 c =
     let digits = two_digits c.args.number c.unit-tens.result c.unit-units.result (omega arith) (omega arith)
     c.unit-tens.ensures c.unit-units.ensures in
     on_ok_weaker c.push_first.result (λ e. e ∙ ap (λ (t : Text). held c.args.replies.now ++ t) (sym digits))
-    c.push_first.ensures
+    c.push_first.ensures.ok
