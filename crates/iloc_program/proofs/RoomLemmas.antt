@@ -16,7 +16,7 @@ use Rattle.iloc_normalize.specs.declared.writing.Written.TheVariants.{Normal, No
 use Rattle.iloc_normalize.specs.declared.writing.Written.TheVariants as written
 use Rattle.iloc_normalize.specs.declared.Mode.{Mode}
 use Rattle.iloc_program.specs.Answers.{output}
-use Rattle.iloc_program.specs.ReplyBlock.{room_for}
+use Rattle.iloc_program.specs.ReplyBlock.{room_for, WasRefused}
 use Rattle.iloc_program.specs.Replies.{line_room, text_room}
 
 -- a text has at most one piece more than bytes
@@ -76,3 +76,14 @@ later_in_text Refused mode old now text rest ahead within h =
     let front = length-append old (output languages mode text) in
     let back = length-append now (output languages mode rest) in
     within_more Refused _ _ (omega (arith, whole, front, back, within)) h
+
+-- what was refused within a bound was refused
+pub was_refused : {A E : Type 0} (Refused : ℕ → Type 0) (m : ℕ) (r : Result A E) →
+    OnErr r (RefusedWithin Refused m) → OnErr r (WasRefused Refused)
+was_refused Refused m (Ok x) h = tt
+was_refused Refused m (Err e) (n, below, given) = (n, given)
+
+pub refusal_was_refused : {A E : Type 0} (Refused : ℕ → Type 0) (P : Type 0) (m : ℕ) (r : Result A E) → P →
+    OnErr r (P → RefusedWithin Refused m) → OnErr r (WasRefused Refused)
+refusal_was_refused Refused P m (Ok x) p h = tt
+refusal_was_refused Refused P m (Err e) p h = ((h p).0, (h p).2)

@@ -16,3 +16,7 @@ MakesRoom old new more result =
 -- more, which are made first
 abbrev pub room_for : ℕ → ℕ
 room_for n = 131072 + 2 * n
+
+-- room for some number of items was refused
+abbrev pub WasRefused : (ℕ → Type 0) → Type 0
+WasRefused Refused = (n : ℕ) × Refused n

@@ -5,8 +5,8 @@ use Rattle.iloc_program.specs.ReplyBlock.{held}
 use Rattle.locid.proofs.EntryLemmas.{refused}
 use Rattle.locid.proofs.checking.CheckingLists.list.Goals as goal
 
-pub returns-in_ok-write_report-in-Some : goal.returns-in_ok-write_report-in-Some
-returns-in_ok-write_report-in-Some g c =
+pub returns-in_ok-write_report-in-Some-clause-ok : goal.returns-in_ok-write_report-in-Some-clause-ok
+returns-in_ok-write_report-in-Some-clause-ok g c =
     let text : c.split_at.result.0.now ≡ text_in c.args.line =
     c.split_at.ensures.front ∙ ap (λ (k : ℕ). take k c.args.line.bytes.now) c.len.ensures in
     on_ok_weaker c.extend_from_slice.result

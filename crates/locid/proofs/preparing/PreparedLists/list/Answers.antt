@@ -7,8 +7,8 @@ use Rattle.iloc_program.specs.ReplyBlock.{held}
 use Rattle.locid.specs.Prepared.{IsPrepared}
 use Rattle.locid.proofs.preparing.PreparedLists.list.Goals as goal
 
-pub returns : goal.returns
-returns g c =
+pub returns-clause-ok : goal.returns-clause-ok
+returns-clause-ok g c =
     let text : c.split_at.result.0.now ≡ text_in c.args.line =
     c.split_at.ensures.front ∙ ap (λ (k : ℕ). take k c.args.line.bytes.now) c.len.ensures in
     subst (λ (t : Text). OnOk c.list_prepared.result (AddsText
