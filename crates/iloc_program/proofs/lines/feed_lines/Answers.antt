@@ -86,7 +86,8 @@ returns-in_err-reply_line-clause-out_of_memory g c next =
     let more = length-append c.args.bytes.now next in
     let whole : length line ≤ length (c.args.bytes.now ++ next) =
     omega (arith, all, cut, short, more, c.line_end-end.ensures.within) in
-    on_err _ _ (line_in_text g.M.Memory.refused g.A.InMode.mode (held c.args.replies.now) (held c.lines.replies)
+    on_err _ _ (line_in_text g.M.Memory.refused g.A.InMode.mode (held c.args.replies.now)
+    (held c.lines.replies)
     (c.args.bytes.now ++ next) (rest ++ next) line (c.lines.invariant.ahead next) whole
     c.in_err-reply_line.ensures.out_of_memory)
 
@@ -104,7 +105,8 @@ returns-in_err-reply_to-clause-out_of_memory g c next =
     omega (arith, all, short, more, c.line_end-end.ensures.within) in
     let asked = subst (λ (t : Text). RefusedWithin g.M.Memory.refused (line_room (held c.lines.replies) t))
     (text_of_cut rest end (omega (arith, back_len))) c.in_err-reply_to.ensures.out_of_memory in
-    on_err _ _ (line_in_text g.M.Memory.refused g.A.InMode.mode (held c.args.replies.now) (held c.lines.replies)
+    on_err _ _ (line_in_text g.M.Memory.refused g.A.InMode.mode (held c.args.replies.now)
+    (held c.lines.replies)
     (c.args.bytes.now ++ next) (rest ++ next) line (c.lines.invariant.ahead next) whole asked)
 
 pub returns : goal.returns
@@ -133,6 +135,7 @@ returns g c =
       );
       out_of_memory = λ next.
           let more = length-append c.args.bytes.now next in
-          refused_more g.M.Memory.refused _ _ (omega (arith, nothing, within, more)) c.extend_from_slice.result
+          refused_more g.M.Memory.refused _ _ (omega (arith, nothing, within, more))
+          c.extend_from_slice.result
           c.extend_from_slice.ensures.out_of_memory;
     }

@@ -54,7 +54,8 @@ returns-in-Some-2 g c =
     record {
       ok = on_ok_weaker c.write_refusal-in-Some-2.result
           (λ e. refused_then mode line before after _ error is e) c.write_refusal-in-Some-2.ensures.text;
-      out_of_memory = refusal_room g.M.Memory.refused _ before after line c.write_refusal-in-Some-2.result is.1
+      out_of_memory = refusal_room g.M.Memory.refused _ before after line
+          c.write_refusal-in-Some-2.result is.1
           (refusal_known mode line error is.0) c.write_refusal-in-Some-2.ensures.out_of_memory;
     }
 
