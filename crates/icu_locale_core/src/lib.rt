@@ -336,7 +336,9 @@ pub mod laws {
 
 /// The library of the program `locale_normal`.
 pub mod program {
-    pub use iloc_program::{Listing, Mode, RunError, ending, run, run_listed};
+    pub use iloc_program::{
+        Listing, Mode, RunError, ending, run, run_in, run_listed, run_listed_in,
+    };
 }
 
 pub use iloc_data::DataLocale;

@@ -10,6 +10,7 @@ ghost use Rattle.iloc_pieces.specs.Words.{word_number as number_of};
 ghost use Rattle.iloc_faults.specs.States.{AreNew, are_same, variants_left};
 ghost use Rattle.iloc_faults.specs.Numbers.{AreNumbersAt, AreDistinct, ComeBefore, same};
 
+use iloc_memory::{Memory, lengthen};
 use iloc_pieces::cursor::{Cursor, is_last, is_variant, next, word_number};
 use std::alloc::Global;
 use std::cmp::min;
@@ -43,14 +44,15 @@ impl Room for OnStack {
     }
 }
 
-/// In memory. If it is refused, they are kept on the stack.
+/// In this memory. If room is refused, they are kept on the stack.
 #[derive(Clone, Copy)]
-pub struct InMemory(pub Global);
+pub struct InMemory<M = Global>(pub M);
 
-impl Room for InMemory {
+impl<M: Memory> Room for InMemory<M> {
     fn count_many(self, first: Cursor<'_>, all: usize) -> usize {
-        match vec![in self.0; 0u64; all] {
-            Ok(mut words) => count_in(words.as_mut_slice(), first, all),
+        let mut words = self.0.empty();
+        match lengthen(self.0, &mut words, all, 0u64) {
+            Ok(()) => count_in(words.as_mut_slice(), first, all),
             Err(_) => count_by::<MANY>(first, all),
         }
     }

@@ -2,7 +2,8 @@
 ghost use Rattle.std.specs.Prelude.{◌≡◌, ◌≢◌, ◌+◌, ◌≤◌, Some, [], ◌∷◌, ◌++◌, take, length, map, IfSome, MatchOption, IfOk, OnOk, OnErr, IsOkUnless, ◌<◌, vec_len};
 ghost use Rattle.std.specs.Io.KnownBytes.{Appends};
 ghost use Rattle.iloc_writeable.specs.Growth.{AddsBeginning};
-ghost use Rattle.iloc_program.specs.Replies.{AnswersLine, FeedsReplies, RepliesTo};
+ghost use Rattle.iloc_memory.specs.Refusals.{RefusedWithin};
+ghost use Rattle.iloc_program.specs.Replies.{AnswersLine, FeedsReplies, RepliesTo, line_room, text_room};
 ghost use Rattle.iloc_program.specs.ReplyBlock.{held};
 ghost use Rattle.iloc_normalize.specs.Answered.{IsLead};
 ghost use Rattle.iloc_program.specs.Lines.{IsLineEnd, IsOneLine};
@@ -16,12 +17,13 @@ ghost use Rattle.memchr.specs.Find.{Nowhere, Passes, is_byte};
 use crate::replies::write_refusal;
 use crate::reply_block::ReplyBlock;
 use crate::{InMode, RunError};
+use iloc_memory::{Memory, Trees, extend_from_slice, lengthen};
 use iloc_normalize::{Lead, Mode, Written, read_found, read_lead};
 use iloc_pieces::{Plain, Window, may_begin, read_plain};
 use iloc_spans::spans::Spans;
 use iloc_subtags::ParseError;
 use memchr::memchr_iter;
-use std::alloc::{AllocError, Global};
+use std::alloc::AllocError;
 use std::io::Write;
 use std::simd::prelude::*;
 
@@ -29,10 +31,13 @@ use std::simd::prelude::*;
 const BLOCK: usize = 65536;
 
 // Room for what one read gives.
-pub(crate) fn new_block(alloc: Global) -> Result<Vec<u8>, AllocError>
-    ensures { IfOk result (λ block. 0 < vec_len block) }
+pub(crate) fn new_block<M: Memory>(memory: M) -> Result<Vec<u8>, AllocError>
+    ensures ok { IfOk result (λ block. 0 < vec_len block) }
+    ensures out_of_memory { OnErr result (RefusedWithin M.refused 65536) }
 {
-    vec![in alloc; 0u8; BLOCK]
+    let mut block = memory.empty();
+    lengthen(memory, &mut block, BLOCK, 0u8)?;
+    Ok(block)
 }
 
 // A bit for each newline among sixteen bytes.
@@ -135,16 +140,18 @@ fn lead_of<A: InMode>(answers: &A, line: Window<'_>) -> Lead
 // Adds the normal text of the line, of which the beginning shows this, and a newline; or returns why it is refused.
 // The spans are room for the outline of a line. It fails only if an allocation does.
 #[inline(always)]
-fn answer_as(
+fn answer_as<M: Trees>(
     mode: Mode,
     lead: Lead,
     line: Window<'_>,
     spans: &mut Spans,
-    replies: &mut ReplyBlock,
+    replies: &mut ReplyBlock<M>,
 ) -> Result<Option<ParseError>, AllocError>
     requires { IsLead mode (text_in line) lead }
-    ensures { IfOk result
+    ensures ok { IfOk result
         (AnswersLine mode (text_in line.entry) (held replies.old) (held replies.new)) }
+    ensures out_of_memory { OnErr result (RefusedWithin M.refused
+        (line_room (held replies.old) (text_in line.entry))) }
 {
     if let Lead::Refused(error) = lead {
         return Ok(Some(error));
@@ -161,14 +168,16 @@ fn answer_as(
 // Adds the normal text of the line and a newline, or returns why it is refused; if an allocation fails, that. The call is
 // one for all modes.
 #[inline(never)]
-fn answer_read(
+fn answer_read<M: Trees>(
     mode: Mode,
     line: Window<'_>,
     spans: &mut Spans,
-    replies: &mut ReplyBlock,
+    replies: &mut ReplyBlock<M>,
 ) -> Option<ParseError>
-    ensures { result ≢ Some ParseError.OutOfMemory
+    ensures answered { result ≢ Some ParseError.OutOfMemory
         → AnswersLine mode (text_in line.entry) (held replies.old) (held replies.new) result }
+    ensures out_of_memory { result ≡ Some ParseError.OutOfMemory → RefusedWithin M.refused
+        (line_room (held replies.old) (text_in line.entry)) }
 {
     let lead = read_lead(mode, line);
     match answer_as(mode, lead, line, spans, replies) {
@@ -179,14 +188,16 @@ fn answer_read(
 
 // The same, without that call where the line is plain, or where what is asked first refuses it.
 #[inline(always)]
-pub(crate) fn answer_in(
+pub(crate) fn answer_in<M: Trees>(
     mode: Mode,
     line: Window<'_>,
     spans: &mut Spans,
-    replies: &mut ReplyBlock,
+    replies: &mut ReplyBlock<M>,
 ) -> Result<Option<ParseError>, AllocError>
-    ensures { IfOk result
+    ensures ok { IfOk result
         (AnswersLine mode (text_in line.entry) (held replies.old) (held replies.new)) }
+    ensures out_of_memory { OnErr result (RefusedWithin M.refused
+        (line_room (held replies.old) (text_in line.entry))) }
 {
     if !may_begin(line) {
         return Ok(Some(ParseError::InvalidLanguage));
@@ -209,14 +220,16 @@ pub(crate) fn answer_in(
 
 // Adds the reply to the line, in a mode that is only known when it runs.
 #[inline(always)]
-fn reply_in(
+fn reply_in<M: Trees>(
     mode: Mode,
     line: Window<'_>,
     spans: &mut Spans,
-    replies: &mut ReplyBlock,
+    replies: &mut ReplyBlock<M>,
 ) -> Result<(), AllocError>
-    ensures { OnOk result (held replies.new
+    ensures ok { OnOk result (held replies.new
         ≡ held replies.old ++ reply languages mode (text_in line.entry)) }
+    ensures out_of_memory { OnErr result (RefusedWithin M.refused
+        (line_room (held replies.old) (text_in line.entry))) }
 {
     match answer_in(mode, line, spans, replies)? {
         Some(error) => write_refusal(error, replies),
@@ -226,16 +239,18 @@ fn reply_in(
 
 // Adds the reply to the line that is pending, and forgets the line. Sixteen bytes are put behind it, which may be loaded.
 #[inline(never)]
-fn end_pending(
+fn end_pending<M: Trees>(
     mode: Mode,
     pending: &mut Vec<u8>,
     spans: &mut Spans,
-    replies: &mut ReplyBlock,
+    replies: &mut ReplyBlock<M>,
 ) -> Result<(), AllocError>
-    ensures { RepliesTo mode pending.old.items (held replies.old) (held replies.new)
+    ensures ok { RepliesTo mode pending.old.items (held replies.old) (held replies.new)
         pending.new.items result }
+    ensures out_of_memory { OnErr result (RefusedWithin M.refused
+        (line_room (held replies.old) pending.old.items)) }
 {
-    pending.extend_from_slice(&[0; 16])?;
+    extend_from_slice(replies.memory(), pending, &[0; 16])?;
     let line = Window {
         bytes: pending.as_slice(),
     };
@@ -245,33 +260,38 @@ fn end_pending(
 }
 
 /// Adds the reply to one line, wherever it stands. It is copied to the room, which is empty afterwards. The spans are room for
-/// the outline of the line.
+/// the outline of the line. It fails only if the memory of the replies refused room for at most twice as many bytes as the
+/// replies before, the line and 48 more, or as many as are made first.
 #[inline(never)]
-pub fn reply_line(
+pub fn reply_line<M: Trees>(
     mode: Mode,
     line: &[u8],
     room: &mut Vec<u8>,
     spans: &mut Spans,
-    replies: &mut ReplyBlock,
+    replies: &mut ReplyBlock<M>,
 ) -> Result<(), AllocError>
-    ensures { RepliesTo mode line.now (held replies.old) (held replies.new) room.new.items
+    ensures ok { RepliesTo mode line.now (held replies.old) (held replies.new) room.new.items
         result }
+    ensures out_of_memory { OnErr result (RefusedWithin M.refused
+        (line_room (held replies.old) line.now)) }
 {
     room.clear();
-    room.extend_from_slice(line)?;
+    extend_from_slice(replies.memory(), room, line)?;
     end_pending(mode, room, spans, replies)
 }
 
 // Adds the reply to the line. It is called from one place only, since `lead_of` is too large to be inlined in two.
 #[inline(always)]
-fn reply_to<A: InMode>(
+fn reply_to<A: InMode, M: Trees>(
     answers: &A,
     line: Window<'_>,
     spans: &mut Spans,
-    replies: &mut ReplyBlock,
+    replies: &mut ReplyBlock<M>,
 ) -> Result<(), AllocError>
-    ensures { OnOk result (held replies.new
+    ensures ok { OnOk result (held replies.new
         ≡ held replies.old ++ reply languages A.mode (text_in line.entry)) }
+    ensures out_of_memory { OnErr result (RefusedWithin M.refused
+        (line_room (held replies.old) (text_in line.entry))) }
 {
     if !may_begin(line) {
         return write_refusal(ParseError::InvalidLanguage, replies);
@@ -288,16 +308,18 @@ fn reply_to<A: InMode>(
 
 // Adds the replies to the lines that these bytes end, if nothing is pending, and keeps the start of
 // the next line. A line near the end of the bytes is answered in the room of what is pending.
-fn feed_lines<A: InMode>(
+fn feed_lines<A: InMode, M: Trees>(
     answers: &A,
     pending: &mut Vec<u8>,
     bytes: &[u8],
     spans: &mut Spans,
-    replies: &mut ReplyBlock,
+    replies: &mut ReplyBlock<M>,
 ) -> Result<(), AllocError>
     requires { pending.old.items ≡ [] }
-    ensures { FeedsReplies A.mode [] bytes.now (held replies.old) (held replies.new)
+    ensures ok { FeedsReplies A.mode [] bytes.now (held replies.old) (held replies.new)
         pending.new.items result }
+    ensures out_of_memory { (next : Text) → OnErr result (RefusedWithin M.refused
+        (text_room A.mode (held replies.old) (bytes.now ++ next))) }
 {
     let mut rest = bytes;
     'lines: loop {
@@ -316,43 +338,47 @@ fn feed_lines<A: InMode>(
         }
         rest = &later[1..];
     }
-    pending.extend_from_slice(rest)
+    extend_from_slice(replies.memory(), pending, rest)
 }
 
 // Adds the replies to the lines that this piece of the input ends, and keeps the start of the next line.
 // What is pending is answered first, so that no other line asks for it.
-pub(crate) fn feed<A: InMode>(
+pub(crate) fn feed<A: InMode, M: Trees>(
     answers: &A,
     pending: &mut Vec<u8>,
     piece: &[u8],
     spans: &mut Spans,
-    replies: &mut ReplyBlock,
+    replies: &mut ReplyBlock<M>,
 ) -> Result<(), AllocError>
     requires { IsOneLine pending.old.items }
-    ensures { FeedsReplies A.mode pending.old.items piece.now (held replies.old)
+    ensures ok { FeedsReplies A.mode pending.old.items piece.now (held replies.old)
         (held replies.new) pending.new.items result }
+    ensures out_of_memory { (next : Text) → OnErr result (RefusedWithin M.refused
+        (text_room A.mode (held replies.old) (pending.old.items ++ (piece.now ++ next)))) }
 {
     if pending.is_empty() {
         return feed_lines(answers, pending, piece, spans, replies);
     }
     let Some((line, later)) = split_line(piece) else {
-        return pending.extend_from_slice(piece);
+        return extend_from_slice(replies.memory(), pending, piece);
     };
-    pending.extend_from_slice(line)?;
+    extend_from_slice(replies.memory(), pending, line)?;
     end_pending(answers.mode(), pending, spans, replies)?;
     feed_lines(answers, pending, later, spans, replies)
 }
 
 // Adds the reply to a last line without a newline, if there is one.
-pub(crate) fn finish<A: InMode>(
+pub(crate) fn finish<A: InMode, M: Trees>(
     answers: &A,
     pending: &mut Vec<u8>,
     spans: &mut Spans,
-    replies: &mut ReplyBlock,
+    replies: &mut ReplyBlock<M>,
 ) -> Result<(), AllocError>
     requires { IsOneLine pending.old.items }
-    ensures { OnOk result (held replies.new
+    ensures ok { OnOk result (held replies.new
         ≡ held replies.old ++ output languages A.mode pending.old.items) }
+    ensures out_of_memory { OnErr result (RefusedWithin M.refused
+        (line_room (held replies.old) pending.old.items)) }
 {
     if pending.is_empty() {
         return Ok(());

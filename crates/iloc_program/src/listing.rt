@@ -1,12 +1,14 @@
 //! What becomes of each line of an input: its normal text, or why it is refused, which line it is, and where the fault
 //! stands.
-ghost use Rattle.std.specs.Prelude.{IfOk, OnErr};
+ghost use Rattle.std.specs.Prelude.{◌≡◌, Err, IfOk, OnErr};
 ghost use Rattle.iloc_program.specs.Numbered.{ListsAll, ListsBeginning};
 ghost use Rattle.iloc_program.specs.Listing.{IsEntry};
+ghost use Rattle.iloc_program.specs.ReplyBlock.{WasRefused};
 
 use crate::entries::Listed;
-use crate::numbered::{Listing, run_numbered};
+use crate::numbered::{Listing, run_numbered_in};
 use crate::{DataLocales, Identifiers, Locales, Mode, RunError};
+use iloc_memory::Trees;
 use std::alloc::Global;
 use std::io::{Read, Write};
 
@@ -39,18 +41,38 @@ pub fn run_listed<R: Read, W: Write>(
         (R.remaining reader.old) (R.remaining reader.new)
         (W.contents writer.old) (W.contents writer.new)) }
 {
+    run_listed_in(alloc, mode, listing, first, reader, writer)
+}
+
+/// The same with any memory. It runs out of memory only if room was refused.
+pub fn run_listed_in<M: Trees, R: Read, W: Write>(
+    memory: M,
+    mode: Mode,
+    listing: Listing,
+    first: u64,
+    reader: &mut R,
+    writer: &mut W,
+) -> Result<u64, RunError>
+    ensures ok { IfOk result (ListsAll (IsEntry mode listing) first
+        (R.remaining reader.old) (R.remaining reader.new)
+        (W.contents writer.old) (W.contents writer.new)) }
+    ensures err { OnErr result (ListsBeginning (IsEntry mode listing) first
+        (R.remaining reader.old) (R.remaining reader.new)
+        (W.contents writer.old) (W.contents writer.new)) }
+    ensures out_of_memory { result ≡ Err RunError.OutOfMemory → WasRefused M.refused }
+{
     match mode {
         Mode::Langid => {
-            let mut listed = Listed::new(alloc, Identifiers);
-            run_numbered(alloc, &mut listed, listing, first, reader, writer)
+            let mut listed = Listed::new_in(memory, Identifiers);
+            run_numbered_in(memory, &mut listed, listing, first, reader, writer)
         }
         Mode::Locale => {
-            let mut listed = Listed::new(alloc, Locales);
-            run_numbered(alloc, &mut listed, listing, first, reader, writer)
+            let mut listed = Listed::new_in(memory, Locales);
+            run_numbered_in(memory, &mut listed, listing, first, reader, writer)
         }
         Mode::Data => {
-            let mut listed = Listed::new(alloc, DataLocales);
-            run_numbered(alloc, &mut listed, listing, first, reader, writer)
+            let mut listed = Listed::new_in(memory, DataLocales);
+            run_numbered_in(memory, &mut listed, listing, first, reader, writer)
         }
     }
 }

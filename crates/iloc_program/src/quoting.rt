@@ -1,20 +1,22 @@
 //! Numbers, and texts as they are shown.
-ghost use Rattle.std.specs.Prelude.{◌≡◌, ◌+◌, ◌-◌, ◌<◌, ◌≤◌, [], ◌∷◌, ◌++◌, true, false, length, take, map, OnOk};
+ghost use Rattle.std.specs.Prelude.{◌≡◌, ◌+◌, ◌-◌, ◌<◌, ◌≤◌, [], ◌∷◌, ◌++◌, true, false, length, take, map, OnOk, OnErr};
 ghost use Rattle.std.specs.Fmt.{decimal, digit_glyph};
 ghost use Rattle.std.specs.Int.{w64, to_le_bytes};
 ghost use Rattle.std.specs.Simd.Lanes.{mask_l};
-ghost use Rattle.iloc_program.specs.ReplyBlock.{held};
+ghost use Rattle.iloc_program.specs.ReplyBlock.{held, WasRefused};
 ghost use Rattle.iloc_program.specs.Listing.{is_escaped, range_column, shown, shown_byte};
 
 use crate::ReplyBlock;
+use iloc_memory::Memory;
 use itoa::Buffer;
 use std::alloc::AllocError;
 use std::simd::prelude::*;
 
 /// Adds a number in decimal digits.
 #[inline(always)]
-pub fn write_decimal(number: u64, replies: &mut ReplyBlock) -> Result<(), AllocError>
-    ensures { OnOk result (held replies.new ≡ held replies.old ++ decimal number) }
+pub fn write_decimal<M: Memory>(number: u64, replies: &mut ReplyBlock<M>) -> Result<(), AllocError>
+    ensures ok { OnOk result (held replies.new ≡ held replies.old ++ decimal number) }
+    ensures out_of_memory { OnErr result (WasRefused M.refused) }
 {
     if number < 10 {
         let digit = unit(number);
@@ -30,8 +32,9 @@ pub fn write_decimal(number: u64, replies: &mut ReplyBlock) -> Result<(), AllocE
 
 // Adds a number in decimal digits, of which there may be many.
 #[inline(never)]
-fn write_long_decimal(number: u64, replies: &mut ReplyBlock) -> Result<(), AllocError>
-    ensures { OnOk result (held replies.new ≡ held replies.old ++ decimal number) }
+fn write_long_decimal<M: Memory>(number: u64, replies: &mut ReplyBlock<M>) -> Result<(), AllocError>
+    ensures ok { OnOk result (held replies.new ≡ held replies.old ++ decimal number) }
+    ensures out_of_memory { OnErr result (WasRefused M.refused) }
 {
     let mut digits = Buffer::new();
     replies.extend_from_slice(digits.format(number).as_bytes())
@@ -69,8 +72,13 @@ pub(crate) fn short_range(from: u64, to: u64) -> (u64, usize)
 }
 
 /// Adds a tab, any range, and a tab.
-pub(crate) fn write_range(from: u64, to: u64, replies: &mut ReplyBlock) -> Result<(), AllocError>
-    ensures { OnOk result (held replies.new ≡ held replies.old ++ range_column from to) }
+pub(crate) fn write_range<M: Memory>(
+    from: u64,
+    to: u64,
+    replies: &mut ReplyBlock<M>,
+) -> Result<(), AllocError>
+    ensures ok { OnOk result (held replies.new ≡ held replies.old ++ range_column from to) }
+    ensures out_of_memory { OnErr result (WasRefused M.refused) }
 {
     replies.push(b'\t')?;
     write_decimal(from, replies)?;
@@ -92,8 +100,9 @@ pub(crate) fn escaped_in(lanes: u8x16) -> u64
 /// Adds a text as it is shown: printable ASCII as itself, a tab as `\t`, a backslash as `\\`, other bytes as `\x` and two digits.
 #[inline(never)]
 #[tactic(auto, using(crate::proofs::ShownLemmas::shown_front))]
-pub fn write_shown(text: &[u8], replies: &mut ReplyBlock) -> Result<(), AllocError>
-    ensures { OnOk result (held replies.new ≡ held replies.old ++ shown text.now) }
+pub fn write_shown<M: Memory>(text: &[u8], replies: &mut ReplyBlock<M>) -> Result<(), AllocError>
+    ensures ok { OnOk result (held replies.new ≡ held replies.old ++ shown text.now) }
+    ensures out_of_memory { OnErr result (WasRefused M.refused) }
 {
     let (front, rest) = text.split_at(count_plain(text));
     replies.extend_from_slice(front)?;
@@ -126,8 +135,9 @@ fn is_plain(byte: u8) -> bool
 }
 
 // Adds a byte as it is shown.
-fn write_shown_byte(byte: u8, replies: &mut ReplyBlock) -> Result<(), AllocError>
-    ensures { OnOk result (held replies.new ≡ held replies.old ++ shown_byte byte) }
+fn write_shown_byte<M: Memory>(byte: u8, replies: &mut ReplyBlock<M>) -> Result<(), AllocError>
+    ensures ok { OnOk result (held replies.new ≡ held replies.old ++ shown_byte byte) }
+    ensures out_of_memory { OnErr result (WasRefused M.refused) }
 {
     match byte {
         b'\t' => replies.extend_from_slice(b"\\t"),

@@ -1,18 +1,25 @@
 //! What is replied to a line that is refused.
-ghost use Rattle.std.specs.Prelude.{◌≡◌, ◌≢◌, ◌≤◌, [], ◌∷◌, ◌++◌, take, IfSome, OnOk};
-ghost use Rattle.iloc_program.specs.ReplyBlock.{held};
+ghost use Rattle.std.specs.Prelude.{◌≡◌, ◌≢◌, ◌+◌, ◌≤◌, [], ◌∷◌, ◌++◌, length, take, IfSome, OnOk, OnErr};
+ghost use Rattle.iloc_memory.specs.Refusals.{RefusedWithin};
+ghost use Rattle.iloc_program.specs.ReplyBlock.{held, room_for};
 ghost use Rattle.iloc_program.specs.Answers.{refusal_text};
 
 use crate::reply_block::ReplyBlock;
+use iloc_memory::Memory;
 use iloc_subtags::ParseError;
 use std::alloc::AllocError;
 
 // Adds why a line has no answer, and a newline. That an allocation fails is no answer to a line.
 #[inline(always)]
-pub(crate) fn write_refusal(error: ParseError, replies: &mut ReplyBlock) -> Result<(), AllocError>
+pub(crate) fn write_refusal<M: Memory>(
+    error: ParseError,
+    replies: &mut ReplyBlock<M>,
+) -> Result<(), AllocError>
     ensures text { OnOk result (held replies.new
         ≡ held replies.old ++ (refusal_text error ++ 10 ∷ [])) }
     ensures known { OnOk result (error ≢ ParseError.OutOfMemory) }
+    ensures out_of_memory { OnErr result (error ≢ ParseError.OutOfMemory
+        → RefusedWithin M.refused (room_for (length (held replies.old) + 48))) }
 {
     match error {
         ParseError::InvalidLanguage => replies.push_first(REASONS[0], 39),

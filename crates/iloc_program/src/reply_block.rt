@@ -1,6 +1,10 @@
 //! The replies to a block of lines, as they are collected.
-ghost use Rattle.std.specs.Prelude.{◌≡◌, ◌+◌, ◌≤◌, [], ◌∷◌, ◌++◌, length, take, vec_len, IfOk, OnOk, OnErr};
+//!
+//! It promises that a growth fails only if the memory refused room (`out_of_memory`): for at most twice as many bytes as are
+//! held then, or as many as are made first (`room_for`).
+ghost use Rattle.std.specs.Prelude.{◌≡◌, ◌+◌, ◌<◌, ◌≤◌, [], ◌∷◌, ◌++◌, length, take, vec_len, IfOk, OnOk, OnErr};
 
+use iloc_memory::{Memory, Trees, lengthen};
 use iloc_normalize::{Lead, Mode, Written, write_normal};
 use iloc_pieces::{Plain, Window};
 use iloc_spans::spans::Spans;
@@ -13,39 +17,57 @@ const FIRST_ROOM: usize = 131_072;
 /// Bytes that count, and room behind them. What stands in the room says nothing, so that a plain text is
 /// stored as sixteen bytes at once, whatever its length.
 #[derive(Drop)]
-pub struct ReplyBlock {
-    alloc: Global,
+pub struct ReplyBlock<M = Global> {
+    memory: M,
     room: Vec<u8>,
     len: usize,
     ghost within: { len ≤ vec_len room },
 }
 
 impl ReplyBlock {
-    ghost use Rattle.iloc_program.specs.ReplyBlock.{MakesRoom, held};
-    ghost use Rattle.iloc_program.specs.Replies.{IsReplied};
-    ghost use Rattle.iloc_normalize.specs.Answered.{IsLead};
-    ghost use Rattle.iloc_spec_grammar.specs.Values.{identifier_text};
-    ghost use Rattle.iloc_pieces.specs.Plain.{AreWords, value_of};
-    ghost use Rattle.iloc_pieces.specs.Window.{text_in};
+    ghost use Rattle.iloc_program.specs.ReplyBlock.{held};
 
     /// No bytes. It allocates nothing.
     pub fn new(alloc: Global) -> Self
         ensures { held result ≡ [] }
     {
+        ReplyBlock::new_in(alloc)
+    }
+}
+
+impl<M: Memory> ReplyBlock<M> {
+    ghost use Rattle.iloc_program.specs.ReplyBlock.{MakesRoom, held, room_for};
+    ghost use Rattle.iloc_memory.specs.Refusals.{RefusedWithin};
+    ghost use Rattle.iloc_spec_grammar.specs.Values.{identifier_text};
+    ghost use Rattle.iloc_pieces.specs.Plain.{AreWords, value_of};
+
+    /// No bytes. It asks for no room; later room is asked of this memory.
+    pub fn new_in(memory: M) -> Self
+        ensures { held result ≡ [] }
+    {
         ReplyBlock {
-            alloc,
-            room: Vec::new(alloc),
+            memory,
+            room: memory.empty(),
             len: 0,
         }
     }
 
     /// No bytes, and room for so many.
-    pub(crate) fn with_room(alloc: Global, room: usize) -> Result<Self, AllocError>
-        ensures { IfOk result (λ block. held block ≡ []) }
+    pub(crate) fn with_room(memory: M, room: usize) -> Result<Self, AllocError>
+        ensures ok { IfOk result (λ block. held block ≡ []) }
+        ensures out_of_memory { OnErr result (RefusedWithin M.refused room) }
     {
-        let mut block = ReplyBlock::new(alloc);
-        block.room.resize(room, 0)?;
+        let mut block = ReplyBlock::new_in(memory);
+        lengthen(memory, &mut block.room, room, 0)?;
         Ok(block)
+    }
+
+    /// The memory that is asked for room.
+    #[inline(always)]
+    pub(crate) fn memory(&self) -> M
+        ensures { result ≡ self.now.memory }
+    {
+        self.memory
     }
 
     /// Forgets the bytes, and keeps their room.
@@ -82,7 +104,9 @@ impl ReplyBlock {
     /// Adds a byte.
     #[inline(always)]
     pub fn push(&mut self, byte: u8) -> Result<(), AllocError>
-        ensures { OnOk result (held self.new ≡ held self.old ++ byte ∷ []) }
+        ensures ok { OnOk result (held self.new ≡ held self.old ++ byte ∷ []) }
+        ensures out_of_memory { OnErr result
+            (RefusedWithin M.refused (room_for (length (held self.old) + 1))) }
     {
         self.make_room(1)?;
         self.put(&[byte], 1);
@@ -97,7 +121,9 @@ impl ReplyBlock {
         count: usize,
     ) -> Result<(), AllocError>
         requires { count ≤ N }
-        ensures { OnOk result (held self.new ≡ held self.old ++ take count bytes.entry) }
+        ensures ok { OnOk result (held self.new ≡ held self.old ++ take count bytes.entry) }
+        ensures out_of_memory { OnErr result
+            (RefusedWithin M.refused (room_for (length (held self.old) + N))) }
     {
         self.make_room(N)?;
         self.put(&bytes, count);
@@ -118,8 +144,10 @@ impl ReplyBlock {
         requires words { words_len ≤ 48 }
         requires range { range_len ≤ 8 }
         requires piece { piece_len ≤ 16 }
-        ensures { OnOk result (held self.new ≡ held self.old ++ (take words_len words.now
+        ensures ok { OnOk result (held self.new ≡ held self.old ++ (take words_len words.now
             ++ (take range_len range ++ (take piece_len piece ++ 10 ∷ [])))) }
+        ensures out_of_memory { OnErr result
+            (RefusedWithin M.refused (room_for (length (held self.old) + 73))) }
     {
         self.make_room(73)?;
         let start = self.len;
@@ -136,8 +164,10 @@ impl ReplyBlock {
     #[inline(always)]
     pub(crate) fn push_plain(&mut self, plain: &Plain) -> Result<(), AllocError>
         requires { AreWords plain.now }
-        ensures { OnOk result (held self.new
+        ensures ok { OnOk result (held self.new
             ≡ held self.old ++ (identifier_text (value_of plain.now) ++ 10 ∷ [])) }
+        ensures out_of_memory { OnErr result
+            (RefusedWithin M.refused (room_for (length (held self.old) + 17))) }
     {
         self.make_room(17)?;
         self.put(plain.bytes.as_array(), plain.len);
@@ -145,34 +175,12 @@ impl ReplyBlock {
         Ok(())
     }
 
-    /// Adds the normal text of a text, of which the beginning shows this, and a newline; or nothing.
-    #[inline(always)]
-    pub(crate) fn push_answered(
-        &mut self,
-        mode: Mode,
-        lead: Lead,
-        text: Window<'_>,
-        spans: &mut Spans,
-    ) -> Result<Written, AllocError>
-        requires { IsLead mode (text_in text) lead }
-        ensures { IfOk result
-            (IsReplied mode (text_in text.entry) (held self.old) (held self.new)) }
-    {
-        self.make_room(text.bytes.len() + 1)?;
-        let start = self.len;
-        let to = &mut self.room.as_mut_slice()[start..];
-        let written = write_normal(self.alloc, mode, lead, text, spans, to);
-        if let Written::Normal(count) = written {
-            self.len = start + count;
-            self.put(b"\n", 1);
-        }
-        Ok(written)
-    }
-
     /// Adds these bytes.
     pub fn extend_from_slice(&mut self, bytes: &[u8]) -> Result<(), AllocError>
         ensures ok { OnOk result (held self.new ≡ held self.old ++ bytes.now) }
         ensures err { OnErr result (held self.new ≡ held self.old) }
+        ensures out_of_memory { OnErr result
+            (RefusedWithin M.refused (room_for (length (held self.old) + length bytes.now))) }
     {
         self.make_room(bytes.len())?;
         self.put(bytes, bytes.len());
@@ -182,7 +190,9 @@ impl ReplyBlock {
     // Sees that there is room for so many more.
     #[inline(always)]
     fn make_room(&mut self, more: usize) -> Result<(), AllocError>
-        ensures { MakesRoom self.old self.new more result }
+        ensures room { MakesRoom self.old self.new more result }
+        ensures out_of_memory { OnErr result
+            (RefusedWithin M.refused (room_for (length (held self.old) + more))) }
     {
         if self.room.len() - self.len < more {
             return self.grow(more);
@@ -193,17 +203,18 @@ impl ReplyBlock {
     // Makes room for so many more, and for twice as many as there was room for, or at first for many replies.
     #[inline(never)]
     fn grow(&mut self, more: usize) -> Result<(), AllocError>
-        ensures { MakesRoom self.old self.new more result }
+        requires { vec_len self.old.room < self.old.len + more }
+        ensures room { MakesRoom self.old self.new more result }
+        ensures out_of_memory { OnErr result
+            (RefusedWithin M.refused (room_for (length (held self.old) + more))) }
     {
-        let Some(least) = self.len.checked_add(more) else {
-            return Err(AllocError);
-        };
+        let least = self.len.saturating_add(more);
         let usual = if self.room.is_empty() {
             FIRST_ROOM
         } else {
             self.room.len().saturating_mul(2)
         };
-        self.room.resize(max(least, usual), 0)
+        lengthen(self.memory, &mut self.room, max(least, usual), 0)
     }
 
     // Stores these bytes behind those that count, and counts the first of them.
@@ -219,6 +230,44 @@ impl ReplyBlock {
         let end = start + bytes.len();
         self.room.as_mut_slice()[start..end].copy_from_slice(bytes);
         self.len = start + count;
+    }
+}
+
+impl<M: Trees> ReplyBlock<M> {
+    ghost use Rattle.std.specs.Prelude.{Ok};
+    ghost use Rattle.iloc_program.specs.ReplyBlock.{held, room_for};
+    ghost use Rattle.iloc_program.specs.Replies.{IsReplied};
+    ghost use Rattle.iloc_memory.specs.Refusals.{RefusedWithin};
+    ghost use Rattle.iloc_normalize.specs.Answered.{IsLead};
+    ghost use Rattle.iloc_spec_grammar.specs.Syntax.{pieces};
+    ghost use Rattle.iloc_pieces.specs.Window.{text_in};
+
+    /// Adds the normal text of a text, of which the beginning shows this, and a newline; or nothing.
+    #[inline(always)]
+    pub(crate) fn push_answered(
+        &mut self,
+        mode: Mode,
+        lead: Lead,
+        text: Window<'_>,
+        spans: &mut Spans,
+    ) -> Result<Written, AllocError>
+        requires { IsLead mode (text_in text) lead }
+        ensures ok { IfOk result
+            (IsReplied mode (text_in text.entry) (held self.old) (held self.new)) }
+        ensures out_of_memory { OnErr result (RefusedWithin M.refused
+            (room_for (length (held self.old) + (length text.entry.bytes.now + 1)))) }
+        ensures nothing { result ≡ Ok Written.Nothing
+            → RefusedWithin M.refused (length (pieces (text_in text.entry))) }
+    {
+        self.make_room(text.bytes.len() + 1)?;
+        let start = self.len;
+        let to = &mut self.room.as_mut_slice()[start..];
+        let written = write_normal(self.memory, mode, lead, text, spans, to);
+        if let Written::Normal(count) = written {
+            self.len = start + count;
+            self.put(b"\n", 1);
+        }
+        Ok(written)
     }
 }
 

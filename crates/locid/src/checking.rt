@@ -38,7 +38,7 @@ pub struct Checking<'a, A> {
     pub tally: &'a mut Tally,
 }
 
-impl<A: InMode> Lists for Checking<'_, A> {
+impl<A: InMode> Lists<Global> for Checking<'_, A> {
     ghost is_entry = { λ _ _ line entry. IsChecked A.mode line entry };
 
     fn list(

@@ -208,7 +208,7 @@ fn part<R: Read, W: Write>(
 }
 
 // Runs these lists over lines that are prepared as the reading says.
-fn run_prepared<L: Lists, R: Read, W: Write>(
+fn run_prepared<L: Lists<Global>, R: Read, W: Write>(
     alloc: Global,
     reading: Reading,
     listing: Listing,
@@ -230,7 +230,7 @@ fn run_prepared<L: Lists, R: Read, W: Write>(
 }
 
 // The same of lines that end with zero bytes or are cleaned, as the types say.
-fn run_as<L: Lists, const BY_ZERO: bool, const CLEANS: bool, R: Read, W: Write>(
+fn run_as<L: Lists<Global>, const BY_ZERO: bool, const CLEANS: bool, R: Read, W: Write>(
     alloc: Global,
     listing: Listing,
     lists: &mut L,

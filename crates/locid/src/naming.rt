@@ -18,7 +18,7 @@ pub struct Naming<'a, L> {
     pub below: L,
 }
 
-impl<L: Lists> Lists for Naming<'_, L> {
+impl<L: Lists<Global>> Lists<Global> for Naming<'_, L> {
     ghost is_entry = { λ listing number line entry.
         IsNamedEntry (L.is_entry listing number line) entry };
 

@@ -23,7 +23,7 @@ pub struct Parting<'a> {
     pub tally: &'a mut Tally,
 }
 
-impl Lists for Parting<'_> {
+impl Lists<Global> for Parting<'_> {
     // What is written of a line is not said here.
     ghost is_entry = { λ _ _ _ _. Unit {0} };
 

@@ -9,7 +9,7 @@ use iloc_cleaning::{clean_line, without_mark};
 use iloc_pieces::Window;
 use iloc_program::numbered::Lists;
 use iloc_program::{Listing, ReplyBlock};
-use std::alloc::AllocError;
+use std::alloc::{AllocError, Global};
 
 /// Writes for each line what `below` writes for what is read in its place.
 #[derive(Drop)]
@@ -20,7 +20,8 @@ pub struct Prepared<'a, L, const BY_ZERO: bool, const CLEANS: bool> {
     pub cleaned: Vec<u8>,
 }
 
-impl<L: Lists, const BY_ZERO: bool, const CLEANS: bool> Lists for Prepared<'_, L, BY_ZERO, CLEANS> {
+impl<L: Lists<Global>, const BY_ZERO: bool, const CLEANS: bool> Lists<Global>
+    for Prepared<'_, L, BY_ZERO, CLEANS> {
     ghost is_entry = { IsPrepared L.is_entry BY_ZERO CLEANS };
 
     fn list(
@@ -39,7 +40,7 @@ impl<L: Lists, const BY_ZERO: bool, const CLEANS: bool> Lists for Prepared<'_, L
 }
 
 // Adds what `below` writes for what is read in place of the line, for which there are two rooms.
-fn list_prepared<L: Lists, const BY_ZERO: bool, const CLEANS: bool>(
+fn list_prepared<L: Lists<Global>, const BY_ZERO: bool, const CLEANS: bool>(
     below: &mut L,
     whole: &mut Vec<u8>,
     cleaned: &mut Vec<u8>,
@@ -56,7 +57,7 @@ fn list_prepared<L: Lists, const BY_ZERO: bool, const CLEANS: bool>(
 }
 
 // Adds what `below` writes for the text in the room. Sixteen bytes are put behind it, which may be loaded.
-fn list_kept<L: Lists>(
+fn list_kept<L: Lists<Global>>(
     below: &mut L,
     room: &mut Vec<u8>,
     listing: Listing,

@@ -8,8 +8,8 @@ use Rattle.iloc_program.proofs.EntryLemmas.{one_by_one}
 use Rattle.iloc_program.proofs.ShownLemmas.{in_window}
 use Rattle.iloc_program.proofs.entries.write_long.Goals as goal
 
-pub returns : goal.returns
-returns c =
+pub returns-clause-ok : goal.returns-clause-ok
+returns-clause-ok g c =
     let old = held c.args.replies.now in
     let words = c.args.words.now in
     let f = c.args.fault.now in
@@ -17,10 +17,10 @@ returns c =
     on_ok_weaker c.push.result
     (λ e. e
     ∙ ap (λ (t : Text). t ++ 10 ∷ [])
-    (c.in_ok-write_shown.ensures
+    (c.in_ok-write_shown.ensures.ok
     ∙ ap (λ (t : Text). t ++ shown (take (f.end - f.start) (drop f.start c.args.line.bytes.now)))
-    (c.in_ok-write_range.ensures
+    (c.in_ok-write_range.ensures.ok
     ∙ ap (λ (t : Text). t ++ range_column f.start f.end) c.in_ok-extend_from_slice.ensures.ok)
     ∙ ap (λ (t : Text). ((old ++ words) ++ range_column f.start f.end) ++ shown t) (sym piece))
     ∙ one_by_one old words (range_column f.start f.end) (shown (faulty_piece (text_in c.args.line) f)))
-    c.push.ensures
+    c.push.ensures.ok

@@ -6,15 +6,15 @@ use Rattle.iloc_normalize.proofs.FrontAnswers.{no_language_refused}
 use Rattle.iloc_normalize.proofs.PlainAnswers.{plain_normal}
 use Rattle.iloc_program.proofs.lines.answer_in.Goals as goal
 
-pub returns-then-not-may_begin : goal.returns-then-not-may_begin
-returns-then-not-may_begin c = (
+pub returns-then-not-may_begin-clause-ok : goal.returns-then-not-may_begin-clause-ok
+returns-then-not-may_begin-clause-ok g c = (
   no_language_refused c.args.mode (text_in c.args.line) (c.may_begin.ensures c.if-not-may_begin.true),
   refl,
 )
 
-pub returns-in-Some : goal.returns-in-Some
-returns-in-Some c = (
+pub returns-in-Some-clause-ok : goal.returns-in-Some-clause-ok
+returns-in-Some-clause-ok g c = (
   identifier_text (value_of c.in-Some.plain),
   plain_normal c.args.mode (text_in c.args.line) c.in-Some.plain c.in-Some.ensures,
-  c.in_ok-push_plain.ensures,
+  c.in_ok-push_plain.ensures.ok,
 )

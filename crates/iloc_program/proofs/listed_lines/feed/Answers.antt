@@ -9,8 +9,8 @@ use Rattle.iloc_program.proofs.FeedLemmas.{Feeds-both, Feeds-line, Feeds-open}
 use Rattle.iloc_program.proofs.listed_lines.feed.Goals as goal
 
 -- the line that was pending is listed, and then what follows it
-pub returns : goal.returns
-returns g c =
+pub returns-clause-ok : goal.returns-clause-ok
+returns-clause-ok g c =
     let IsEntry = g.L.Lists.is_entry c.args.listing in
     let pending = c.args.pending.now.items in
     let old = held c.args.replies.now in
@@ -31,11 +31,11 @@ returns g c =
     (Feeds IsEntry c.args.number pending c.args.piece.now old new last)
     (λ next then. subst (λ (t : Text). Feeds IsEntry c.args.number pending t old new last next) whole
     (Feeds-both IsEntry _ pending old _ later mid new [] last _ next first then))
-    c.feed_lines-2.ensures
+    c.feed_lines-2.ensures.ok
 
 -- no line ended
-pub returns-in_default : goal.returns-in_default
-returns-in_default g c =
+pub returns-in_default-clause-ok : goal.returns-in_default-clause-ok
+returns-in_default-clause-ok g c =
     let one : IsOneLine c.args.piece.now = search rules in
     Feeds-open (g.L.Lists.is_entry c.args.listing) _ _ _ _ _ c.requires one
-    c.in_ok-extend_from_slice.ensures.items
+    c.in_ok-extend_from_slice.ensures.ok

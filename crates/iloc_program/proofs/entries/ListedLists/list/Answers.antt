@@ -17,29 +17,29 @@ write_refused-requires g c =
     let after = held c.answer_in.new.replies in
     let is : AnswersLine c.mode-mode.result line before after (Some c.in-Some.refusal) =
     subst (λ (o : Option ParseError). AnswersLine c.mode-mode.result line before after o) c.in-Some.is
-    c.in_ok-refusal.ensures in
+    c.in_ok-refusal.ensures.ok in
     subst (λ (m : Mode). HasRefusal m line c.in-Some.refusal) c.mode-mode.ensures is.0
 
-pub returns-in-Some : goal.returns-in-Some
-returns-in-Some g c =
+pub returns-in-Some-clause-ok : goal.returns-in-Some-clause-ok
+returns-in-Some-clause-ok g c =
     let line = text_in c.args.line in
     let before = held c.args.replies.now in
     let after = held c.answer_in.new.replies in
     let is : AnswersLine c.mode-mode.result line before after (Some c.in-Some.refusal) =
     subst (λ (o : Option ParseError). AnswersLine c.mode-mode.result line before after o) c.in-Some.is
-    c.in_ok-refusal.ensures in
+    c.in_ok-refusal.ensures.ok in
     entry_of c.write_refused.result g.A.InMode.mode g.A.InMode.mode c.args.listing c.args.number
     line line after before (held c.write_refused.new.replies) refl refl is.1
-    c.write_refused.ensures
+    c.write_refused.ensures.ok
 
-pub returns-in-None : goal.returns-in-None
-returns-in-None g c =
+pub returns-in-None-clause-ok : goal.returns-in-None-clause-ok
+returns-in-None-clause-ok g c =
     let line = text_in c.args.line in
     let before = held c.args.replies.now in
     let after = held c.answer_in.new.replies in
     let is : AnswersLine c.mode-mode.result line before after None =
     subst (λ (o : Option ParseError). AnswersLine c.mode-mode.result line before after o) c.in-None.is
-    c.in_ok-refusal.ensures in
+    c.in_ok-refusal.ensures.ok in
     let cut : held c.truncate.new.self ≡ take (length before) after =
     c.truncate.ensures ∙ ap (λ (k : ℕ). take k after) c.len-before.ensures in
     subst (λ (m : Mode). AddsText (IsEntry m c.args.listing c.args.number line) before

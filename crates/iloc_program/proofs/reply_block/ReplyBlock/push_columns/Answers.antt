@@ -5,8 +5,8 @@ use Rattle.iloc_program.proofs.BlockLemmas.{counted}
 use Rattle.iloc_program.proofs.reply_block.ReplyBlock.push_columns.Goals as goal
 use Rattle.iloc_spec_grammar.specs.Syntax.{Text}
 
-pub returns : goal.returns
-returns c =
+pub returns-clause-ok : goal.returns-clause-ok
+returns-clause-ok g c =
     let room = c.make_room.new.self.room in
     let start = c.make_room.new.self.len in
     let r = c.as_mut_slice.result.now in
@@ -38,8 +38,8 @@ returns c =
       c.requires.piece,
     ) in
     let stored = counted room to start c.store-end.result (length room.items - start)
-    (omega (arith, long, same)) (omega (arith, long, same, c.in_ok-make_room.ensures.1))
-    (omega (arith, long, same, ends, c.in_ok-make_room.ensures.1)) in
+    (omega (arith, long, same)) (omega (arith, long, same, c.in_ok-make_room.ensures.room.1))
+    (omega (arith, long, same, ends, c.in_ok-make_room.ensures.room.1)) in
     let text : take c.store-end.result to ≡ ((words ++ range) ++ piece) ++ 10 ∷ [] =
     c.store-end.ensures.stored
     ∙ ap (λ (t : Text). t ++ 10 ∷ []) (c.store-third.ensures.stored
@@ -49,4 +49,4 @@ returns c =
     simp append_assoc in
     rw c.as_mut_slice.ensures.value
     (stored ∙ ap (λ (t : Text). take start room.items ++ t) (text ∙ columns)
-    ∙ ap (λ (t : Text). t ++ (words ++ (range ++ (piece ++ 10 ∷ [])))) c.make_room.ensures.0)
+    ∙ ap (λ (t : Text). t ++ (words ++ (range ++ (piece ++ 10 ∷ [])))) c.make_room.ensures.room.0)

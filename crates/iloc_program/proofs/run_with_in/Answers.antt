@@ -1,4 +1,4 @@
-use Rattle.std.proofs.Common.{◌≡◌, ◌++◌, take, length, ◌<◌, ap, ◌∙◌, sym, subst, arith}
+use Rattle.std.proofs.Common.{◌≡◌, [], ◌++◌, take, length, ◌<◌, ap, ◌∙◌, sym, subst, arith}
 use Rattle.std.specs.Io.{StartsWith}
 use Rattle.std.specs.Io.KnownBytes.{Appends, Consumes}
 use Rattle.iloc_program.specs.ReplyBlock.{held}
@@ -8,7 +8,7 @@ use Rattle.iloc_program.proofs.RunLemmas.{Stands-kept, Stands-part, Stands-read,
 use Rattle.iloc_program.proofs.RunLemmas.{Stands-written, on_err, on_err_then, on_ok_then}
 use Rattle.iloc_program.specs.Answers.{output}
 use Rattle.iloc_spec_grammar.specs.Syntax.{Text, languages}
-use Rattle.iloc_program.proofs.run_with.Goals as goal
+use Rattle.iloc_program.proofs.run_with_in.Goals as goal
 
 pub returns-in_err-room-clause-err : goal.returns-in_err-room-clause-err
 returns-in_err-room-clause-err g c = on_err _ _ (Stands-front _ _ _ _ _ _ (Stands-first g.A.InMode.mode _ _))
@@ -30,7 +30,7 @@ returns-then-count-eq0-clause-ok g c =
     let room : 0 < length c.read.new.buf = omega arith in
     let end = c.in-Ok.ensures.bytes.1 c.if-count-eq0.true room in
     let written : c.as_slice.result.now ≡ output languages g.A.InMode.mode c.reads.pending.items =
-    c.as_slice.ensures ∙ c.in_ok-finish.ensures
+    c.as_slice.ensures ∙ c.in_ok-finish.ensures.ok
     ∙ ap (λ (t : Text). t ++ output languages g.A.InMode.mode c.reads.pending.items) c.clear.ensures in
     on_ok_then c.write_whole.result _ _ c.write_whole.ensures.ok
     (λ took. Stands-end _ _ _ _ _ _ _ c.as_slice.result.now
@@ -42,7 +42,7 @@ returns-then-count-eq0-clause-err g c =
     let room : 0 < length c.read.new.buf = omega arith in
     let end = c.in-Ok.ensures.bytes.1 c.if-count-eq0.true room in
     let written : c.as_slice.result.now ≡ output languages g.A.InMode.mode c.reads.pending.items =
-    c.as_slice.ensures ∙ c.in_ok-finish.ensures
+    c.as_slice.ensures ∙ c.in_ok-finish.ensures.ok
     ∙ ap (λ (t : Text). t ++ output languages g.A.InMode.mode c.reads.pending.items) c.clear.ensures in
     on_err_then c.write_whole.result _ _ c.write_whole.ensures.err
     (λ took. Stands-end_part _ _ _ _ _ _ _ c.as_slice.result.now took.written
@@ -60,7 +60,7 @@ returns-in_err-write_whole-clause-err g c =
     let piece = c.split_at.result.0.now in
     let given : piece ≡ take count c.read.new.buf = c.split_at.ensures.front in
     let fed = Replies-fed g.A.InMode.mode (held c.clear.new.self) c.reads.pending.items piece
-    c.feed.new.pending.items (held c.feed.new.replies) c.clear.ensures c.in_ok-feed.ensures.1 in
+    c.feed.new.pending.items (held c.feed.new.replies) c.clear.ensures c.in_ok-feed.ensures.ok.1 in
     let took = c.in_err-write_whole.ensures.err in
     on_err _ _ (Stands-part _ _ _ _ _ _ _ _ _ took.written
     (Stands-read _ _ _ _ _ _ _ piece c.reads.invariant.stands
@@ -75,13 +75,26 @@ reads-preserved g c =
     let replies = held c.feed.new.replies in
     let given : piece ≡ take count c.read.new.buf = c.split_at.ensures.front in
     let fed = Replies-fed g.A.InMode.mode (held c.clear.new.self) c.reads.pending.items piece
-    c.feed.new.pending.items replies c.clear.ensures c.in_ok-feed.ensures.1 in
+    c.feed.new.pending.items replies c.clear.ensures c.in_ok-feed.ensures.ok.1 in
     let written : replies ≡ c.as_slice-in-reads.result.now = sym c.as_slice-in-reads.ensures in
     record {
-      one_line = c.in_ok-feed.ensures.0;
+      one_line = c.in_ok-feed.ensures.ok.0;
       room = omega arith;
       stands = Stands-written _ _ _ _ _ _ _ _ _
           (Stands-read _ _ _ _ _ _ _ piece c.reads.invariant.stands
           (subst (Consumes _ _) (sym given) c.in-Ok.ensures.bytes.0))
           fed (subst (Appends _ _) (sym written) c.in_ok-write_whole.ensures.ok);
     }
+
+-- memory was refused where a call says so
+pub returns-in_err-room-clause-out_of_memory : goal.returns-in_err-room-clause-out_of_memory
+returns-in_err-room-clause-out_of_memory g c e =
+    let asked = c.in_err-room.ensures.out_of_memory in (asked.0, asked.2)
+
+pub returns-in_err-finish-clause-out_of_memory : goal.returns-in_err-finish-clause-out_of_memory
+returns-in_err-finish-clause-out_of_memory g c e =
+    let asked = c.in_err-finish.ensures.out_of_memory in (asked.0, asked.2)
+
+pub returns-in_err-feed-clause-out_of_memory : goal.returns-in_err-feed-clause-out_of_memory
+returns-in_err-feed-clause-out_of_memory g c e =
+    let asked = c.in_err-feed.ensures.out_of_memory [] in (asked.0, asked.2)

@@ -1,7 +1,7 @@
 use Rattle.std.proofs.Common.{◌<◌, length}
 use Rattle.iloc_program.specs.Lines.{IsOneLine}
 use Rattle.iloc_program.proofs.ListedLemmas.{Stands}
-use Rattle.iloc_program.proofs.numbered.run_numbered.Given as goal
+use Rattle.iloc_program.proofs.numbered.run_numbered_in.Given as goal
 
 abbrev pub invariant-reads : goal.invariant-reads
 invariant-reads g l = record {
