@@ -1,6 +1,5 @@
 -- An answer is one line. No normal text has a `!`.
-use Rattle.std.proofs.Common.{◌≡◌, ◌≢◌, inl, inr, ℕ, true, not, ◌==◌, All, List, [], ◌∷◌, map, refl, sym, ap}
-use Rattle.std.proofs.Common.{◌∙◌, subst, arith}
+use Rattle.std.proofs.Common.{◌≡◌, ◌≢◌, inl, inr, ℕ, true, not, ◌==◌, All, List, [], ◌∷◌, map, refl, sym, ap, ◌∙◌, subst, arith}
 use Rattle.std.specs.Char.{is_ascii_alphanumeric, to_ascii_lowercase}
 use Rattle.std.specs.List.{AllByRecursion, list_all}
 use Rattle.std.specs.Cmp.{first_so, second_so}
@@ -8,8 +7,7 @@ use Rattle.std.proofs.lemmas.Bool.Decides.{nat_tests}
 use Rattle.std.proofs.lemmas.List.Elements.{All-from_recursion}
 use Rattle.iloc_spec_grammar.specs.Syntax.{Text, pieces, join, Kind, IsWord, languages, Identifier}
 use Rattle.iloc_spec_grammar.specs.Meaning as grammar
-use Rattle.iloc_spec_grammar.specs.Meaning.{Means, Fault}
-use Rattle.iloc_spec_grammar.specs.Meaning.{InvalidLanguage, InvalidSubtag, InvalidExtension, DuplicatedExtension}
+use Rattle.iloc_spec_grammar.specs.Meaning.{Means, Fault, InvalidLanguage, InvalidSubtag, InvalidExtension, DuplicatedExtension}
 use Rattle.iloc_spec_grammar.specs.Values.{IsIdentifierValue, identifier_text, text}
 use Rattle.iloc_spec_grammar.specs.Tree.{spelled_identifier}
 use Rattle.iloc_spec_grammar.proofs.RawLaws.{languages_table}
@@ -21,12 +19,7 @@ use Rattle.iloc_spec_grammar.proofs.IdentifierTexts.{identifier_means_value}
 use Rattle.iloc_spec_grammar.proofs.Corollaries.{means_a_value, means_tests, reads_back}
 use Rattle.iloc_spec_grammar.proofs.SameText.{text_is}
 use Rattle.iloc_spec_parts.specs.DataLocales.{DataLocale, DataMeans, data_text, locale_of_data}
-use Rattle.iloc_spec_parts.proofs.DataLaws.{
-  read_is_data_locale,
-  text_of_data,
-  locale_of_data_is_value,
-  locale_of_data_is_well_formed,
-}
+use Rattle.iloc_spec_parts.proofs.DataLaws.{read_is_data_locale, text_of_data, locale_of_data_is_value, locale_of_data_is_well_formed}
 use Rattle.iloc_normalize.specs.Modes.{IsNormalText}
 use Rattle.iloc_normalize.specs.declared.Mode.{Mode}
 use Rattle.iloc_normalize.specs.declared.Mode.TheVariants.{Langid, Locale, Data}

@@ -1,7 +1,5 @@
 -- The first LF, by masks of some bytes.
-use Rattle.std.proofs.Common.{◌≡◌, ◌≢◌, suc, ◌++◌, ◌∷◌, None, ℕ, ◌^◌, ◌<◌, ◌≤◌, Bool, true, false, not}
-use Rattle.std.proofs.Common.{length, map, get_or, take, drop, ◌+◌, ◌-◌, sym, ap, ◌∙◌, subst, arith}
-use Rattle.std.proofs.Common.{inl, inr, Some}
+use Rattle.std.proofs.Common.{◌≡◌, ◌≢◌, suc, ◌++◌, ◌∷◌, None, ℕ, ◌^◌, ◌<◌, ◌≤◌, Bool, true, false, not, length, map, get_or, take, drop, ◌+◌, ◌-◌, sym, ap, ◌∙◌, subst, arith, inl, inr, Some}
 use Rattle.std.specs.List.{prefix_len}
 use Rattle.std.proofs.lemmas.Bool.{false≢true, cases_lt}
 use Rattle.std.proofs.lemmas.List.{get_or-take, get_or-drop, length-drop, length-take-le, length-map}

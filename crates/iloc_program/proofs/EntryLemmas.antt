@@ -1,7 +1,5 @@
 -- The entry of a line, from what is said of the line.
-use Rattle.std.proofs.Common.{◌≡◌, ℕ, true, false, ◌++◌, inl, inr, refl, sym, ap, ◌∙◌}
-use Rattle.std.proofs.Common.{append-nil, append_assoc, [], ◌∷◌, None, length, take, if◌then◌else◌, Bool}
-use Rattle.std.proofs.Common.{not, subst}
+use Rattle.std.proofs.Common.{◌≡◌, ℕ, true, false, ◌++◌, inl, inr, refl, sym, ap, ◌∙◌, append-nil, append_assoc, [], ◌∷◌, None, length, take, if◌then◌else◌, Bool, not, subst}
 use Rattle.std.specs.Prelude.{Result, OnOk}
 use Rattle.std.proofs.Math.Seq.{take-append_seam}
 use Rattle.iloc_subtags.specs.declared.parse_error.ParseError.{ParseError}

@@ -1,14 +1,12 @@
 -- A piece of an input, line by line.
-use Rattle.std.proofs.Common.{◌≡◌, ◌≢◌, ℕ, ◌+◌, ◌<◌, List, [], ◌∷◌, ◌++◌, length, refl, sym, ap, ◌∙◌, subst}
-use Rattle.std.proofs.Common.{arith, append_assoc, append-nil, length-append}
+use Rattle.std.proofs.Common.{◌≡◌, ◌≢◌, ℕ, ◌+◌, ◌<◌, List, [], ◌∷◌, ◌++◌, length, refl, sym, ap, ◌∙◌, subst, arith, append_assoc, append-nil, length-append}
 use Rattle.std.specs.Prelude.{Result, Ok, Err, OnOk, IfOk}
 use Rattle.std.proofs.lemmas.List.Elements.{All-nil, All-append}
 use Rattle.iloc_program.specs.Lines.{lines_of, ended, IsOneLine}
 use Rattle.iloc_program.proofs.LineCuts.{lines_of-last}
 use Rattle.iloc_program.specs.Numbered.{AddsText, AreEntries}
 use Rattle.iloc_program.specs.Feeding.{Feeds, Ends}
-use Rattle.iloc_program.proofs.LineEntries.{AreEntries-append, AreEntries-one, ended-append}
-use Rattle.iloc_program.proofs.LineEntries.{AllByRecursion-append}
+use Rattle.iloc_program.proofs.LineEntries.{AreEntries-append, AreEntries-one, ended-append, AllByRecursion-append}
 use Rattle.iloc_spec_grammar.specs.Syntax.{Text}
 
 module _ (IsEntry : ℕ → Text → Text → Type 0) (n : ℕ) (pending : Text) (old : Text) where

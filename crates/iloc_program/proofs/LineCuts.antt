@@ -1,6 +1,5 @@
 -- The lines of an input, and what is written for them.
-use Rattle.std.proofs.Common.{◌≡◌, ◌≢◌, ℕ, ◌<◌, Bool, false, eqb, [], ◌∷◌, ◌++◌, length, refl, ap}
-use Rattle.std.proofs.Common.{append_assoc, arith, append-nil}
+use Rattle.std.proofs.Common.{◌≡◌, ◌≢◌, ℕ, ◌<◌, Bool, false, eqb, [], ◌∷◌, ◌++◌, length, refl, ap, append_assoc, arith, append-nil}
 use Rattle.std.specs.List.{AllByRecursion}
 use Rattle.std.proofs.lemmas.List.Elements.{recursion_from_All, All-append}
 use Rattle.iloc_program.specs.Answers.{output, reply}

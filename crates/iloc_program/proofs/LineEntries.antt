@@ -1,6 +1,5 @@
 -- Entries one after the other, and lines that are cut from a text.
-use Rattle.std.proofs.Common.{◌≡◌, ℕ, suc, ◌+◌, List, [], ◌∷◌, ◌++◌, length, refl, sym, ap, ◌∙◌, subst, arith}
-use Rattle.std.proofs.Common.{append_assoc, append-nil, add-zero}
+use Rattle.std.proofs.Common.{◌≡◌, ℕ, suc, ◌+◌, List, [], ◌∷◌, ◌++◌, length, refl, sym, ap, ◌∙◌, subst, arith, append_assoc, append-nil, add-zero}
 use Rattle.std.specs.List.{AllByRecursion}
 use Rattle.iloc_program.specs.Lines.{lines_of, ended, IsOneLine}
 use Rattle.iloc_program.proofs.LineCuts.{lines_of-cut}

@@ -1,6 +1,5 @@
 -- How a run stands after each of its steps.
-use Rattle.std.proofs.Common.{◌≡◌, ℕ, ◌+◌, List, [], ◌++◌, take, drop, length, Option, refl, sym}
-use Rattle.std.proofs.Common.{ap, ◌∙◌, subst, arith, append_assoc, append-nil, length-append}
+use Rattle.std.proofs.Common.{◌≡◌, ℕ, ◌+◌, List, [], ◌++◌, take, drop, length, Option, refl, sym, ap, ◌∙◌, subst, arith, append_assoc, append-nil, length-append}
 use Rattle.std.specs.List.{AllByRecursion}
 use Rattle.std.proofs.lemmas.List.{take-append-drop}
 use Rattle.std.proofs.Math.Seq.{take-append_seam}
@@ -8,12 +7,10 @@ use Rattle.std.specs.Io.{StartsWith}
 use Rattle.std.specs.Io.KnownBytes.{Appends, Consumes, IsAtEnd, Keeps}
 use Rattle.iloc_writeable.specs.GrowthLaws.{appends_nothing, appends_both}
 use Rattle.iloc_program.specs.Lines.{lines_of, ended, IsOneLine}
-use Rattle.iloc_program.proofs.KnownLemmas.{Consumes-kept, Consumes-nothing, Consumes-then, IfSome-all}
-use Rattle.iloc_program.proofs.KnownLemmas.{at_end}
+use Rattle.iloc_program.proofs.KnownLemmas.{Consumes-kept, Consumes-nothing, Consumes-then, IfSome-all, at_end}
 use Rattle.iloc_program.specs.Numbered.{AreEntries, IsListing, BeginsListing, ListsAll, ListsBeginning}
 use Rattle.iloc_program.specs.Feeding.{Feeds, Ends}
-use Rattle.iloc_program.proofs.LineEntries.{AreEntries-append, lines_of-ended, ended-append}
-use Rattle.iloc_program.proofs.LineEntries.{AllByRecursion-append}
+use Rattle.iloc_program.proofs.LineEntries.{AreEntries-append, lines_of-ended, ended-append, AllByRecursion-append}
 use Rattle.iloc_spec_grammar.specs.Syntax.{Text}
 
 -- what was read is lines that ended, of which these are the entries, and what is pending

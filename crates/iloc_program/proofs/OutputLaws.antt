@@ -1,6 +1,5 @@
 -- Each line has one answer, and each input one output: those that are computed.
-use Rattle.std.proofs.Common.{◌≡◌, inl, inr, ℕ, Bool, List, [], ◌∷◌, ◌++◌, map, refl, sym, ap, ◌∙◌}
-use Rattle.std.proofs.Common.{MatchResult, Result, Ok, Err}
+use Rattle.std.proofs.Common.{◌≡◌, inl, inr, ℕ, Bool, List, [], ◌∷◌, ◌++◌, map, refl, sym, ap, ◌∙◌, MatchResult, Result, Ok, Err}
 use Rattle.std.specs.List.{AllZip, flat_map}
 use Rattle.iloc_spec_grammar.specs.Syntax.{Text, pieces, AreLengths}
 use Rattle.iloc_spec_grammar.specs.Meaning.{Means, IdentifierMeans, Fault, HasIdentifierFault, HasFault}
@@ -14,8 +13,7 @@ use Rattle.iloc_spec_parts.specs.DataComputing.{data_result}
 use Rattle.iloc_spec_parts.proofs.DataLaws.{data_answer, one_data, data_apart, one_data_fault}
 use Rattle.iloc_spec_grammar.specs.Computing.{identifier_result, locale_result}
 use Rattle.iloc_program.specs.Lines.{lines_of, ended}
-use Rattle.iloc_program.specs.Answers.{refusal, IsAnswer, IsOutput, text_or_refusal, line_answer, reply}
-use Rattle.iloc_program.specs.Answers.{output}
+use Rattle.iloc_program.specs.Answers.{refusal, IsAnswer, IsOutput, text_or_refusal, line_answer, reply, output}
 use Rattle.iloc_normalize.specs.Modes.{IsNormalText, IsFaulty}
 use Rattle.iloc_normalize.specs.declared.Mode.{Mode}
 use Rattle.iloc_normalize.specs.declared.Mode.TheVariants.{Langid, Locale, Data}

@@ -1,6 +1,5 @@
 -- How much room a reply asks for at most.
-use Rattle.std.proofs.Common.{◌≡◌, ◌≢◌, ℕ, ◌+◌, ◌≤◌, List, [], ◌∷◌, ◌++◌, length, Option, None, refl, sym, ap, true≢false}
-use Rattle.std.proofs.Common.{◌∙◌, subst, arith, length-append, Result, Ok, Err, OnErr}
+use Rattle.std.proofs.Common.{◌≡◌, ◌≢◌, ℕ, ◌+◌, ◌≤◌, List, [], ◌∷◌, ◌++◌, length, Option, None, refl, sym, ap, true≢false, ◌∙◌, subst, arith, length-append, Result, Ok, Err, OnErr}
 use Rattle.std.specs.Prelude.{is_some}
 use Rattle.iloc_spec_grammar.specs.Syntax.{Text, pieces, join, languages}
 use Rattle.iloc_spec_grammar.proofs.Orders.{total}

@@ -2,10 +2,7 @@ use Rattle.std.proofs.Common.{◌≡◌, [], ◌++◌, take, length, ◌<◌, ap
 use Rattle.std.specs.Io.{StartsWith}
 use Rattle.std.specs.Io.KnownBytes.{Appends, Consumes}
 use Rattle.iloc_program.specs.ReplyBlock.{held}
-use Rattle.iloc_program.proofs.RunLemmas.{Replies-fed, Stands-end, Stands-end_part, Stands-first}
-use Rattle.iloc_program.proofs.RunLemmas.{Stands-front}
-use Rattle.iloc_program.proofs.RunLemmas.{Stands-kept, Stands-part, Stands-read, Stands-read_none}
-use Rattle.iloc_program.proofs.RunLemmas.{Stands-written, on_err, on_err_then, on_ok_then}
+use Rattle.iloc_program.proofs.RunLemmas.{Replies-fed, Stands-end, Stands-end_part, Stands-first, Stands-front, Stands-kept, Stands-part, Stands-read, Stands-read_none, Stands-written, on_err, on_err_then, on_ok_then}
 use Rattle.iloc_program.specs.Answers.{output}
 use Rattle.iloc_spec_grammar.specs.Syntax.{Text, languages}
 use Rattle.iloc_program.proofs.run_with_in.Goals as goal

@@ -4,8 +4,7 @@ use Rattle.iloc_spec_grammar.specs.Syntax.{pieces, join, is_word, lower, upper, 
 use Rattle.iloc_spec_grammar.specs.Reading.{written_of, unicode_of, transform_of, identifier_of, front_of}
 use Rattle.iloc_spec_grammar.specs.Values.{identifier_text, extensions_spelling}
 use Rattle.iloc_spec_grammar.specs.Computing.{locale_result}
-use Rattle.iloc_spec_parts.specs.SmallComputing.{small_result, small_identifier_result, after_identifier}
-use Rattle.iloc_spec_parts.specs.SmallComputing.{blocks_result, block_fault}
+use Rattle.iloc_spec_parts.specs.SmallComputing.{small_result, small_identifier_result, after_identifier, blocks_result, block_fault}
 use Rattle.iloc_spec_parts.specs.DataComputing.{data_result}
 use Rattle.iloc_program.specs.Answers.{line_answer}
 use Rattle.iloc_program.proofs.laws.by_example.Goals as goal

@@ -1,5 +1,4 @@
-use Rattle.std.proofs.Common.{◌≡◌, ◌≢◌, ℕ, ◌+◌, ◌-◌, ◌<◌, ◌≤◌, [], ◌++◌, length, take, drop, ap, subst}
-use Rattle.std.proofs.Common.{◌∙◌, sym, arith, append_assoc, length-append}
+use Rattle.std.proofs.Common.{◌≡◌, ◌≢◌, ℕ, ◌+◌, ◌-◌, ◌<◌, ◌≤◌, [], ◌++◌, length, take, drop, ap, subst, ◌∙◌, sym, arith, append_assoc, length-append}
 use Rattle.std.specs.Prelude.{OnOk, Vec}
 use Rattle.std.specs.declared.alloc.Global.{Global}
 use Rattle.std.proofs.lemmas.Result.{on_ok_weaker}
@@ -18,10 +17,7 @@ use Rattle.iloc_program.specs.Replies.{line_room}
 use Rattle.iloc_program.proofs.RoomLemmas.{line_in_text}
 use Rattle.iloc_program.proofs.RunLemmas.{on_err}
 use Rattle.iloc_program.proofs.lines.feed_lines.Goals as goal
-use Rattle.iloc_program.proofs.lines.feed_lines.Goals.{
-  then-later-lt16+else-is_empty+in_ok-reply_line,
-  else-later-lt16+in_ok-reply_to,
-}
+use Rattle.iloc_program.proofs.lines.feed_lines.Goals.{then-later-lt16+else-is_empty+in_ok-reply_line, else-later-lt16+in_ok-reply_to}
 use Rattle.iloc_program.specs.Answers.{reply, output}
 
 pub lines-preserved : goal.lines-preserved

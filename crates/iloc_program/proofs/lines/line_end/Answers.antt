@@ -2,8 +2,7 @@ use Rattle.std.proofs.Common.{◌≡◌, sym, ◌∙◌, arith}
 use Rattle.memchr.specs.Find.{is_byte}
 use Rattle.iloc_program.proofs.EndLemmas.{end_there, first_end, later_end, none_passes, none_later}
 use Rattle.iloc_program.proofs.lines.line_end.Goals as goal
-use Rattle.iloc_program.proofs.lines.line_end.Goals.{then-bytes-ge32+else-ends-gt0+else-later-gt0}
-use Rattle.iloc_program.proofs.lines.line_end.Goals.{else-bytes-ge32}
+use Rattle.iloc_program.proofs.lines.line_end.Goals.{then-bytes-ge32+else-ends-gt0+else-later-gt0, else-bytes-ge32}
 
 pub returns-then-ends-gt0 : goal.returns-then-ends-gt0
 returns-then-ends-gt0 c =

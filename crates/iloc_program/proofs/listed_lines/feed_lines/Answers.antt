@@ -1,5 +1,4 @@
-use Rattle.std.proofs.Common.{◌≡◌, ℕ, ◌+◌, ◌-◌, ◌<◌, [], ◌∷◌, ◌++◌, length, take, drop, ap, ◌∙◌, sym, subst}
-use Rattle.std.proofs.Common.{arith, rules}
+use Rattle.std.proofs.Common.{◌≡◌, ℕ, ◌+◌, ◌-◌, ◌<◌, [], ◌∷◌, ◌++◌, length, take, drop, ap, ◌∙◌, sym, subst, arith, rules}
 use Rattle.std.specs.Prelude.{Vec}
 use Rattle.std.specs.declared.alloc.Global.{Global}
 use Rattle.std.proofs.lemmas.Bool.Decides.{nat_tests}
@@ -11,10 +10,7 @@ use Rattle.iloc_program.specs.Numbered.{AddsText}
 use Rattle.iloc_program.specs.ReplyBlock.{held}
 use Rattle.iloc_program.proofs.FeedLemmas.{Feeds-line, taken_with}
 use Rattle.iloc_program.proofs.listed_lines.feed_lines.Goals as goal
-use Rattle.iloc_program.proofs.listed_lines.feed_lines.Goals.{
-  then-later-lt16+else-is_empty+in_ok-end_line,
-  else-later-lt16+in_ok-list_line,
-}
+use Rattle.iloc_program.proofs.listed_lines.feed_lines.Goals.{then-later-lt16+else-is_empty+in_ok-end_line, else-later-lt16+in_ok-list_line}
 
 pub lines-preserved : goal.lines-preserved
 lines-preserved g c =

@@ -3,9 +3,7 @@ use Rattle.std.specs.Io.{StartsWith}
 use Rattle.std.specs.Io.KnownBytes.{Appends, Consumes}
 use Rattle.iloc_program.specs.ReplyBlock.{held}
 use Rattle.iloc_program.proofs.RunLemmas.{on_err}
-use Rattle.iloc_program.proofs.ListedLemmas.{Stands-end, Stands-end_part, Stands-fed, Stands-first}
-use Rattle.iloc_program.proofs.ListedLemmas.{Stands-front, Stands-kept, Stands-part, Stands-read}
-use Rattle.iloc_program.proofs.ListedLemmas.{Stands-read_none}
+use Rattle.iloc_program.proofs.ListedLemmas.{Stands-end, Stands-end_part, Stands-fed, Stands-first, Stands-front, Stands-kept, Stands-part, Stands-read, Stands-read_none}
 use Rattle.iloc_program.proofs.numbered.run_numbered_in.Goals as goal
 use Rattle.iloc_spec_grammar.specs.Syntax.{Text}
 
