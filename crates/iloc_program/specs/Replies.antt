@@ -5,7 +5,8 @@ use Rattle.iloc_subtags.specs.declared.parse_error.ParseError.{ParseError}
 use Rattle.iloc_normalize.specs.Modes.{IsNormalText}
 use Rattle.iloc_program.specs.Answers.{reply, output}
 use Rattle.iloc_program.specs.Lines.{IsOneLine}
-use Rattle.iloc_program.specs.ReplyBlock.{room_for}
+use Rattle.iloc_memory.specs.Refusals.{RefusedWithin}
+use Rattle.iloc_program.specs.ReplyBlock.{room_for, WasRefused}
 use Rattle.iloc_normalize.specs.Answered.{HasRefusal, refusal_of}
 use Rattle.iloc_normalize.specs.declared.Mode.{Mode}
 use Rattle.iloc_normalize.specs.declared.writing.Written.{Written}
@@ -49,3 +50,8 @@ line_room held line = room_for (length held + (length line + 48))
 abbrev pub text_room : Mode → Text → Text → ℕ
 text_room mode held text =
     room_for (length held + length (output languages mode text) + (length text + 48))
+
+-- a run was refused room: where what it reads is known, for what replies to it ask for at most
+abbrev pub IsRunRefused : (ℕ → Type 0) → Mode → Option Text → Type 0
+IsRunRefused Refused mode (Some input) = RefusedWithin Refused (text_room mode [] input)
+IsRunRefused Refused mode None = WasRefused Refused

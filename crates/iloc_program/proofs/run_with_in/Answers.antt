@@ -1,8 +1,11 @@
-use Rattle.std.proofs.Common.{◌≡◌, [], ◌++◌, take, length, ◌<◌, ap, ◌∙◌, sym, subst, arith}
+use Rattle.std.proofs.Common.{◌≡◌, [], ◌++◌, take, length, ◌<◌, ap, ◌∙◌, sym, subst, arith, append_assoc, length-append, None}
+use Rattle.iloc_memory.specs.Refusals.{RefusedWithin}
+use Rattle.iloc_memory.proofs.Within.{within_more}
+use Rattle.iloc_program.specs.Replies.{text_room}
 use Rattle.std.specs.Io.{StartsWith}
 use Rattle.std.specs.Io.KnownBytes.{Appends, Consumes}
 use Rattle.iloc_program.specs.ReplyBlock.{held}
-use Rattle.iloc_program.proofs.RunLemmas.{Replies-fed, Stands-end, Stands-end_part, Stands-first, Stands-front, Stands-kept, Stands-part, Stands-read, Stands-read_none, Stands-written, on_err, on_err_then, on_ok_then}
+use Rattle.iloc_program.proofs.RunLemmas.{Replies-fed, Stands-end, Stands-end_part, Stands-first, Stands-front, Stands-kept, Stands-part, Stands-read, Stands-read_none, Stands-written, on_err, on_err_then, on_ok_then, refused_ahead}
 use Rattle.iloc_program.specs.Answers.{output}
 use Rattle.iloc_spec_grammar.specs.Syntax.{Text, languages}
 use Rattle.iloc_program.proofs.run_with_in.Goals as goal
@@ -57,7 +60,8 @@ returns-in_err-write_whole-clause-err g c =
     let piece = c.split_at.result.0.now in
     let given : piece ≡ take count c.read.new.buf = c.split_at.ensures.front in
     let fed = Replies-fed g.A.InMode.mode (held c.clear.new.self) c.reads.pending.items piece
-    c.feed.new.pending.items (held c.feed.new.replies) c.clear.ensures c.in_ok-feed.ensures.ok.1 in
+    c.feed.new.pending.items (held c.feed.new.replies) c.clear.ensures c.in_ok-feed.ensures.ok.1
+    c.in_ok-feed.ensures.ok.2 in
     let took = c.in_err-write_whole.ensures.err in
     on_err _ _ (Stands-part _ _ _ _ _ _ _ _ _ took.written
     (Stands-read _ _ _ _ _ _ _ piece c.reads.invariant.stands
@@ -72,7 +76,7 @@ reads-preserved g c =
     let replies = held c.feed.new.replies in
     let given : piece ≡ take count c.read.new.buf = c.split_at.ensures.front in
     let fed = Replies-fed g.A.InMode.mode (held c.clear.new.self) c.reads.pending.items piece
-    c.feed.new.pending.items replies c.clear.ensures c.in_ok-feed.ensures.ok.1 in
+    c.feed.new.pending.items replies c.clear.ensures c.in_ok-feed.ensures.ok.1 c.in_ok-feed.ensures.ok.2 in
     let written : replies ≡ c.as_slice-in-reads.result.now = sym c.as_slice-in-reads.ensures in
     record {
       one_line = c.in_ok-feed.ensures.ok.0;
@@ -83,15 +87,32 @@ reads-preserved g c =
           fed (subst (Appends _ _) (sym written) c.in_ok-write_whole.ensures.ok);
     }
 
--- memory was refused where a call says so
+-- memory was refused where a call says so, within the room for all that is read
 pub returns-in_err-room-clause-out_of_memory : goal.returns-in_err-room-clause-out_of_memory
 returns-in_err-room-clause-out_of_memory g c e =
-    let asked = c.in_err-room.ensures.out_of_memory in (asked.0, asked.2)
+    refused_ahead g.A.InMode.mode g.M.Memory.refused _ _ _ _ [] (Stands-first g.A.InMode.mode _ None)
+    (λ next. within_more g.M.Memory.refused 65536 _ (omega arith) c.in_err-room.ensures.out_of_memory)
 
 pub returns-in_err-finish-clause-out_of_memory : goal.returns-in_err-finish-clause-out_of_memory
 returns-in_err-finish-clause-out_of_memory g c e =
-    let asked = c.in_err-finish.ensures.out_of_memory in (asked.0, asked.2)
+    let mode = g.A.InMode.mode in
+    let pending = c.reads.pending.items in
+    let none = ap length c.clear.ensures in
+    refused_ahead mode g.M.Memory.refused _ _ _ _ pending
+    (Stands-read_none _ _ _ _ _ _ _ _ _ c.reads.invariant.stands c.in-Ok.ensures.bytes.0 c.if-count-eq0.true)
+    (λ next. within_more g.M.Memory.refused _ (text_room mode [] (pending ++ next))
+    (omega (arith, none, length-append pending next)) c.in_err-finish.ensures.out_of_memory)
 
 pub returns-in_err-feed-clause-out_of_memory : goal.returns-in_err-feed-clause-out_of_memory
 returns-in_err-feed-clause-out_of_memory g c e =
-    let asked = c.in_err-feed.ensures.out_of_memory [] in (asked.0, asked.2)
+    let mode = g.A.InMode.mode in
+    let pending = c.reads.pending.items in
+    let piece = c.split_at.result.0.now in
+    let given : piece ≡ take c.in-Ok.count c.read.new.buf = c.split_at.ensures.front in
+    refused_ahead mode g.M.Memory.refused _ _ _ _ (pending ++ piece)
+    (Stands-read _ _ _ _ _ _ _ piece c.reads.invariant.stands
+    (subst (Consumes _ _) (sym given) c.in-Ok.ensures.bytes.0))
+    (λ next. subst (λ (t : Text). RefusedWithin g.M.Memory.refused (text_room mode [] t))
+    (sym (append_assoc pending piece next))
+    (subst (λ (t : Text). RefusedWithin g.M.Memory.refused (text_room mode t (pending ++ (piece ++ next))))
+    c.clear.ensures (c.in_err-feed.ensures.out_of_memory next)))
