@@ -1,7 +1,7 @@
 //! Tests of the room that calls ask for: each runs out of memory at one item less than it needs, and not at what it
 //! needs. Memory is granted up to a number of items; `Endless` memory refuses nothing.
 //!
-//! The crate stands on the crates whose calls it makes, up to `iloc_json`.
+//! The crate stands on the crates whose calls it makes, up to `iloc_json` and `iloc_program`.
 #![tactic(auto)]
 
 #[cfg(test)]
@@ -14,5 +14,7 @@ mod copied_parts;
 mod memory;
 #[cfg(test)]
 mod parsing_memory;
+#[cfg(test)]
+mod runs;
 #[cfg(test)]
 mod stored;
