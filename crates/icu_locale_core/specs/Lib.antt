@@ -54,6 +54,8 @@ pub use Rattle.iloc_json.specs.Answers as JsonAnswers
 pub use Rattle.iloc_json.specs.Carrying
 pub use Rattle.iloc_program.specs.Answers as ProgramAnswers
 pub use Rattle.iloc_program.specs.Output as ProgramOutput
+pub use Rattle.iloc_program.specs.Replies as ProgramReplies
+pub use Rattle.iloc_program.specs.ReplyBlock as ProgramReplyBlock
 pub use Rattle.iloc_data.specs.FormatterValues as FormatterValues
 pub use Rattle.iloc_enum_keywords.specs.declared.hour_cycle.HourCycle as HourCycles
 pub use Rattle.iloc_tinystr.specs.TinyText
